@@ -8,6 +8,7 @@ mod answer;
 mod change;
 mod graph_file;
 mod items;
+pub mod laws;
 mod network;
 mod number;
 mod oracle;
