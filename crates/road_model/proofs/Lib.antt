@@ -1,3 +1,4 @@
 pub mod Walks
 pub mod Dists
 pub mod CanonicalWalks
+pub mod Trails

@@ -7,5 +7,4 @@ ghost use Rattle.road_model.specs.Canonical.{IsFirst, IsLast};
 /// There is one distance, or none.
 pub fn dist_is_one()
     ensures { (g : Graph) (u v : ℕ) (a b : Option ℕ) → IsDist g u v a → IsDist g u v b → a ≡ b }
-{
-}
+{}
