@@ -2,3 +2,4 @@ pub mod Walks
 pub mod Dists
 pub mod CanonicalWalks
 pub mod Trails
+pub mod Parts
