@@ -4,16 +4,12 @@
 --   closed_all labels rows  no arc leads to a greater label
 --   none_out v n rows       none of the first n arcs leads out of v
 --   none_into v n rows      none of the first n arcs leads into v
-use Rattle.std.proofs.Common.{◌≡◌, ℕ, ◌+◌, ◌<◌, ◌≤◌, ◌⊎◌, zero, suc, Bool, true, false, ◌&&◌, not, cond, List, [], ◌∷◌, ◌++◌, length, get_or, reverse, Option, Some, None, slice_get, refl, sym, ap, ◌∙◌, subst, arith, inl, inr, ⊎_elim, eqb, leb}
+use Rattle.std.proofs.Common.{◌≡◌, ℕ, ◌+◌, ◌<◌, ◌≤◌, zero, suc, Bool, true, false, ◌&&◌, not, List, [], ◌∷◌, ◌++◌, get_or, Some, None, slice_get, refl, ap, ◌∙◌, subst, arith, eqb, leb}
 use Rattle.std.proofs.lemmas.Bool.Decides.{nat_tests}
-use Rattle.std.proofs.lemmas.Bool.{cases_eq, cases_lt}
-use Rattle.std.proofs.lemmas.List.{reverse-append}
 use Rattle.road_model.specs.declared.rows.ArcRow.{ArcRow}
-use Rattle.road_model.specs.Graph.{Graph, arc_at, length_at, row_length, head_at}
+use Rattle.road_model.specs.Graph.{Graph, arc_at, length_at, row_length}
 use Rattle.road_model.specs.Walk.{IsWalk, walk_length}
-use Rattle.road_model.specs.Dist.{IsDist, IsShortest, NoneShorter, NoWalk}
-use Rattle.road_model.specs.Canonical.{LexLe, IsFirst, IsLast}
-use Rattle.road_model.proofs.Dists.{shortest_of_dist}
+use Rattle.road_model.specs.Dist.{IsDist, IsShortest, NoWalk}
 
 abbrev pub label_of : List ℕ → ℕ → ℕ
 label_of labels v = get_or labels v 0

@@ -1,5 +1,5 @@
 -- The tests on the worked graphs, pair by pair.
-use Rattle.std.proofs.Common.{◌≡◌, ◌≢◌, ℕ, ◌+◌, ◌-◌, ◌*◌, ◌<◌, ◌≤◌, ◌⊎◌, zero, suc, true, List, [], ◌∷◌, ◌++◌, length, Option, Some, None, refl, sym, ap, ◌∙◌, subst, arith, inl, inr, ⊎_elim}
+use Rattle.std.proofs.Common.{◌≡◌, ℕ, ◌+◌, ◌*◌, ◌<◌, ◌≤◌, zero, suc, List, [], ◌∷◌, ◌++◌, Some, refl, sym, ap, ◌∙◌, subst, arith, inl, inr}
 use Rattle.road_model.specs.declared.rows.ArcRow.{ArcRow}
 use Rattle.road_model.specs.declared.trail.Trail.{Trail}
 use Rattle.road_model.specs.Graph.{Graph, length_at}
@@ -11,8 +11,8 @@ use Rattle.road_model.specs.Tests.{IsTested, FailsLocal, FailsStretch, NoneFails
 use Rattle.road_model.specs.Alternatives.{IsVia, HasNoVia, IsAdmissible}
 use Rattle.road_model.proofs.Dists.{IsDist-same}
 use Rattle.road_laws.specs.Worked.{arc, graph_a, graph_b, graph_s, ratio, asked}
-use Rattle.road_laws.proofs.Potentials.{dist_by, shortest_by, none_by}
-use Rattle.road_laws.proofs.Walked.{walk_345, walk_12, dist_1_6}
+use Rattle.road_laws.proofs.Potentials.{dist_by, none_by}
+use Rattle.road_laws.proofs.Walked.{dist_1_6}
 
 abbrev trail_a : Trail
 trail_a = trail_of graph_a 1 (3 ∷ 4 ∷ 5 ∷ [])
@@ -205,8 +205,8 @@ no_walk_35 w =
     let join : w.3.0.tail ≡ w.0.head = w.3.2 in
     omega arith
 
-differ_20_22 : 20 ≡ 22 → ⊥
-differ_20_22 e = omega arith
+differ : (a b : ℕ) → a + 2 ≡ b → a ≡ b → ⊥
+differ a b apart e = omega arith
 
 pub not_22 : IsDist graph_a 1 6 (Some 22) → ⊥
-not_22 h = differ_20_22 (IsDist-same graph_a 1 6 20 22 dist_1_6 h)
+not_22 h = differ 20 22 refl (IsDist-same graph_a 1 6 20 22 dist_1_6 h)

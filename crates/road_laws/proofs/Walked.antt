@@ -1,15 +1,15 @@
 -- The worked graphs: walks, distances and canonical paths on them.
-use Rattle.std.proofs.Common.{◌≡◌, ◌≢◌, ℕ, ◌+◌, ◌-◌, ◌*◌, ◌<◌, ◌≤◌, ◌⊎◌, zero, suc, true, List, [], ◌∷◌, ◌++◌, length, reverse, Option, Some, None, refl, sym, ap, ◌∙◌, subst, arith, inl, inr, ⊎_elim}
+use Rattle.std.proofs.Common.{◌≡◌, ℕ, ◌<◌, ◌≤◌, suc, List, [], ◌∷◌, reverse, Some, refl, sym, ap, ◌∙◌, subst, arith, inl, inr, ⊎_elim}
 use Rattle.std.proofs.lemmas.Bool.{cases_lt}
 use Rattle.std.proofs.lemmas.List.{reverse-append}
 use Rattle.road_model.specs.declared.rows.ArcRow.{ArcRow}
-use Rattle.road_model.specs.Graph.{Graph, arc_at, IsVertex}
-use Rattle.road_model.specs.Walk.{IsWalk, walk_length}
+use Rattle.road_model.specs.Graph.{arc_at}
+use Rattle.road_model.specs.Walk.{IsWalk}
 use Rattle.road_model.specs.Dist.{IsDist, IsShortest}
 use Rattle.road_model.specs.Canonical.{LexLe, IsFirst, IsLast}
 use Rattle.road_model.specs.Alternatives.{IsVia}
-use Rattle.road_laws.specs.Worked.{arc, graph_a, graph_b, graph_s}
-use Rattle.road_laws.proofs.Potentials.{dist_by, shortest_by, none_by, arc_out, arc_into, Ends, last_arc}
+use Rattle.road_laws.specs.Worked.{arc, graph_a}
+use Rattle.road_laws.proofs.Potentials.{dist_by, shortest_by, arc_out, arc_into, Ends, last_arc}
 
 -- labels are the distances from a vertex, and 100 where none is; place 0 is of no vertex
 abbrev from_1 : List ℕ

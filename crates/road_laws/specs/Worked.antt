@@ -3,7 +3,7 @@
 --   graph_b   a detour of two long arcs
 --   graph_s   a stub at vertex 4, which a path through it enters and leaves by the same vertex
 --   asked     a query with the usual ratios: 4/5, 1/4, 1/4
-use Rattle.std.specs.Prelude.{ℕ, List, [], ◌∷◌}
+use Rattle.std.specs.Prelude.{ℕ, [], ◌∷◌}
 use Rattle.road_model.specs.declared.rows.ArcRow.{ArcRow}
 use Rattle.road_model.specs.declared.answer.Query.{Query}
 use Rattle.road_model.specs.Graph.{Graph}

@@ -1,4 +1,4 @@
-use Rattle.std.proofs.Common.{◌≡◌, ℕ, List, Some, [], ◌∷◌, arith}
+use Rattle.std.proofs.Common.{[], ◌∷◌}
 use Rattle.road_laws.proofs.Walked.{walk_345, walk_12, dist_1_6}
 use Rattle.road_laws.proofs.Tried.{no_walk_6_1, no_walk_35, not_22}
 use Rattle.road_laws.proofs.worked.distances_of_a.Goals as goal
