@@ -23,7 +23,7 @@ TakesPiece piece room before Failed = Unit {0}
 
 abbrev pub Gives : ℕ → List ℕ → List ℕ → List ℕ → Read → Type 0
 Gives piece room before after (Took n) =
-  (0 < n) × (n ≡ piece_len piece (length room) (length before)) × (before ≡ take n room ++ after)
+    (0 < n) × (n ≡ piece_len piece (length room) (length before)) × (before ≡ take n room ++ after)
 Gives piece room before after End = (before ≡ []) × (after ≡ [])
 Gives piece room before after Failed = ⊥
 

@@ -1,16 +1,16 @@
-ghost use Rattle.std.specs.Prelude.{◌≡◌, ◌≤◌, ◌<◌, None, length};
+ghost use Rattle.std.specs.Prelude.{◌≡◌, ◌≤◌, OnOk, None};
 ghost use Rattle.std.specs.Io.{ReadsAtMost};
+ghost use Rattle.std.specs.Io.KnownBytes.{Appends};
 ghost use Rattle.road_io.specs.Count.{HasRisen};
 ghost use Rattle.road_io.specs.Source.{Reads};
-
-use std::fs::File;
-use std::io;
-use std::io::{Read as _, Write as _};
-use std::rt::Files;
 
 use crate::reading::{Read, Source};
 use crate::shelves::{Picked, Shelf};
 use crate::writing::{Put, Sink};
+use std::fs::File;
+use std::io;
+use std::io::{Read as _, Write as _};
+use std::rt::Files;
 
 /// The files of the system, by their paths. An open file is closed at the next pick, or where the
 /// shelf is dropped.
@@ -24,7 +24,7 @@ pub struct FileShelf<R: Files + Drop> {
 impl<R: Files + Drop> FileShelf<R> {
     /// A shelf of which no file is open. A reference to the runtime serves as `rt` too.
     pub fn new(rt: R) -> Self
-        ensures { result.faults ≡ 0 }
+        ensures { ⟦<FileShelf<R> as Source>⟧.faults result ≡ 0 }
     {
         FileShelf {
             rt,
@@ -74,7 +74,7 @@ pub struct StdinSource<R: Input> {
 
 impl<R: Input> StdinSource<R> {
     pub fn new(rt: &R) -> Self
-        ensures { result.faults ≡ 0 }
+        ensures { ⟦<StdinSource<R> as Source>⟧.faults result ≡ 0 }
     {
         StdinSource {
             reader: rt.reader(),
@@ -104,7 +104,7 @@ pub struct StdoutSink<'a, R: Print> {
 
 impl<'a, R: Print> StdoutSink<'a, R> {
     pub fn new(rt: &'a R) -> Self
-        ensures { result.faults ≡ 0 }
+        ensures { ⟦<StdoutSink<'a, R> as Sink>⟧.faults result ≡ 0 }
     {
         StdoutSink {
             writer: io::writer(rt),
@@ -147,7 +147,9 @@ fn answer(read: io::Result<usize>, room: &[u8], faults: &mut u64) -> Read
 }
 
 /// Writes the whole piece and hands it on; a writer that takes none of what is left has failed.
-fn write_whole<W: io::Write>(writer: &mut W, piece: &[u8]) -> io::Result<()> {
+fn write_whole<W: io::Write>(writer: &mut W, piece: &[u8]) -> io::Result<()>
+    ensures { OnOk result (Appends (W.contents writer.old) (W.contents writer.new) piece.now) }
+{
     writer.write_all(piece)?;
     writer.flush()
 }

@@ -22,3 +22,6 @@ pub use shelves::{Picked, Shelf};
 pub use sure::{SureShelf, SureSink, SureSource};
 pub use texts::NamedFile;
 pub use writing::{Put, Sink};
+
+#[cfg(test)]
+mod tests;

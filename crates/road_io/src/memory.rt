@@ -8,13 +8,12 @@ ghost use Rattle.road_io.specs.Calls.{is_to_fail, one_more};
 ghost use Rattle.road_io.specs.Memory.{contents_in, TakesPiece};
 ghost use Rattle.road_io.specs.MemForms.{source_left, source_piece, source_calls, sink_bytes, sink_calls, shelf_told, shelf_piece, shelf_calls};
 
-use std::alloc::Global;
-
 use crate::calls::Calls;
 use crate::reading::{Read, Source};
 use crate::shelves::{Picked, Shelf};
 use crate::texts::{NamedFile, Rest, find_file};
 use crate::writing::{Put, Sink};
+use std::alloc::Global;
 
 /// A text in memory as a source, of which chosen calls fail.
 #[derive(Drop)]
