@@ -7,3 +7,4 @@ pub mod Calls
 pub mod Memory
 pub mod MemForms
 pub mod SureForms
+pub mod Adapters

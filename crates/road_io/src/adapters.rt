@@ -3,6 +3,7 @@ ghost use Rattle.std.specs.Io.{ReadsAtMost};
 ghost use Rattle.std.specs.Io.KnownBytes.{Appends};
 ghost use Rattle.road_io.specs.Count.{HasRisen};
 ghost use Rattle.road_io.specs.Source.{Reads};
+ghost use Rattle.road_io.specs.Adapters.{answer_of};
 
 use crate::reading::{Read, Source};
 use crate::shelves::{Picked, Shelf};
@@ -132,6 +133,7 @@ impl<R: Print> Sink for StdoutSink<'_, R> {
 /// What a read of the system says, with its failure counted.
 fn answer(read: io::Result<usize>, room: &[u8], faults: &mut u64) -> Read
     requires { ReadsAtMost read room.now }
+    ensures answer { result ≡ answer_of read }
     ensures reads { Reads room.now None None result }
     ensures count { faults.old ≤ faults.new }
     ensures cause { result ≡ Read.Failed → HasRisen faults.old faults.new }
