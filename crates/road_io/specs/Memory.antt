@@ -4,7 +4,7 @@
 --   Gives         what one read of a text in memory does, which never fails
 --   TakesPiece    a read that gave bytes gave as many as it was to
 --   contents_in   the contents of the first file of the list that has the name
---   named_text    the same, but nothing at all under a name that no file has
+--   named_text    the same, but an empty text under a name that no file has
 use Rattle.std.specs.Prelude.{◌≡◌, ℕ, ◌<◌, List, [], ◌++◌, length, take, Option, min, if◌then◌else◌, ◌==◌, unwrap_or, Some}
 use Rattle.std.specs.Option.{option_map}
 use Rattle.std.specs.List.{find}

@@ -13,7 +13,7 @@ use std::io;
 use std::io::{Read as _, Write as _};
 use std::rt::Files;
 
-/// The files of the system, by their paths. An open file is closed at the next pick, or where the
+/// The files of the system, by their paths. A path that can't be opened is a fault. An open file is closed at the next pick, or where the
 /// shelf is dropped.
 #[derive(Drop)]
 pub struct FileShelf<R: Files + Drop> {
@@ -74,6 +74,7 @@ pub struct StdinSource<R: Input> {
 }
 
 impl<R: Input> StdinSource<R> {
+    /// Standard input as the runtime gives it, from where it stands.
     pub fn new(rt: &R) -> Self
         ensures { ⟦<StdinSource<R> as Source>⟧.faults result ≡ 0 }
     {
@@ -104,6 +105,7 @@ pub struct StdoutSink<'a, R: Print> {
 }
 
 impl<'a, R: Print> StdoutSink<'a, R> {
+    /// Standard output as the runtime gives it.
     pub fn new(rt: &'a R) -> Self
         ensures { ⟦<StdoutSink<'a, R> as Sink>⟧.faults result ≡ 0 }
     {

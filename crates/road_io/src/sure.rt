@@ -18,6 +18,7 @@ pub struct SureSource<'a> {
 }
 
 impl<'a> SureSource<'a> {
+    /// A source that gives these bytes, as many at a time as fit.
     pub fn new(bytes: &'a [u8]) -> Self
         ensures { sure_left result ≡ bytes.now }
     {
