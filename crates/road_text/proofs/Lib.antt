@@ -1,2 +1,4 @@
 pub mod FieldLemmas
 pub mod NumberLemmas
+pub mod LineLemmas
+pub mod HeldLemmas

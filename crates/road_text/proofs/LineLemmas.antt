@@ -1,0 +1,103 @@
+-- How a text goes on behind a line of it.
+use Rattle.std.proofs.Common.{◌≡◌, ◌≢◌, ℕ, ◌+◌, ◌-◌, ◌<◌, ◌≤◌, Bool, true, false, cond, eqb, List, [], ◌∷◌, ◌++◌, length, map, get_or, drop, take, Option, Some, None, refl, sym, ap, ◌∙◌, arith, ⊎_elim, append_assoc, subst, take-add}
+use Rattle.std.specs.List.{AllByRecursion, onto_first}
+use Rattle.std.proofs.lemmas.Bool.{ne_eqb}
+use Rattle.std.proofs.lemmas.List.{append-nil, length-append, length_push}
+use Rattle.std.proofs.lemmas.List.Elements.{All-from_recursion, recursion_from_All, All-append}
+use Rattle.memchr.specs.Find.{Nowhere, NoneBefore, Passes, is_byte}
+use Rattle.std.proofs.lemmas.List.{get_or_default, get_or-drop, get_or-take, length-take-le, length-drop, take-append-drop, take_all}
+use Rattle.std.proofs.lemmas.Bool.{eq-eqb, eqb-true}
+use Rattle.road_text.specs.Filling.{IsFeedAt}
+use Rattle.road_text.specs.Lines.{raw_lines, whole_raw_lines, onto_whole, without_return, lines_of, whole_lines, HasNoFeed}
+
+pub raw_lines-line : (raw rest : List ℕ) → HasNoFeed raw → raw_lines (raw ++ 10 ∷ rest) ≡ raw ∷ raw_lines rest
+unfolding raw_lines
+raw_lines-line [] rest h = refl
+raw_lines-line (b ∷ bs) rest h =
+    rw (ne_eqb b 10 h.0) (ap (λ (pieces : List (List ℕ)). onto_first b pieces) (raw_lines-line bs rest h.1))
+
+pub raw_lines-last : (raw : List ℕ) → HasNoFeed raw → 0 < length raw → raw_lines raw ≡ raw ∷ []
+unfolding raw_lines
+raw_lines-last [] h some = absurd (omega arith)
+raw_lines-last (b ∷ []) h some = rw (ne_eqb b 10 h.0) refl
+raw_lines-last (b ∷ c ∷ bs) h some =
+    let later : raw_lines (c ∷ bs) ≡ (c ∷ bs) ∷ [] = raw_lines-last (c ∷ bs) h.1 (omega arith) in
+    rw (ne_eqb b 10 h.0) (ap (λ (pieces : List (List ℕ)). onto_first b pieces) later)
+
+pub whole_raw_lines-line : (raw rest : List ℕ) → HasNoFeed raw → whole_raw_lines (raw ++ 10 ∷ rest) ≡ raw ∷ whole_raw_lines rest
+unfolding whole_raw_lines
+whole_raw_lines-line [] rest h = refl
+whole_raw_lines-line (b ∷ bs) rest h =
+    rw (ne_eqb b 10 h.0) (ap (λ (pieces : List (List ℕ)). onto_whole b pieces) (whole_raw_lines-line bs rest h.1))
+
+pub whole_raw_lines-none : (raw : List ℕ) → HasNoFeed raw → whole_raw_lines raw ≡ []
+unfolding whole_raw_lines
+whole_raw_lines-none [] h = refl
+whole_raw_lines-none (b ∷ bs) h =
+    rw (ne_eqb b 10 h.0) (ap (λ (pieces : List (List ℕ)). onto_whole b pieces) (whole_raw_lines-none bs h.1))
+
+-- a line with its line feed is the first of the lines
+pub lines_of-line : (raw rest : List ℕ) → HasNoFeed raw → lines_of (raw ++ 10 ∷ rest) ≡ without_return raw ∷ lines_of rest
+unfolding lines_of
+lines_of-line raw rest h = ap (λ (pieces : List (List ℕ)). map without_return pieces) (raw_lines-line raw rest h)
+
+pub whole_lines-line : (raw rest : List ℕ) → HasNoFeed raw → whole_lines (raw ++ 10 ∷ rest) ≡ without_return raw ∷ whole_lines rest
+unfolding whole_lines
+whole_lines-line raw rest h = ap (λ (pieces : List (List ℕ)). map without_return pieces) (whole_raw_lines-line raw rest h)
+
+pub lines_of-last : (raw : List ℕ) → HasNoFeed raw → 0 < length raw → lines_of raw ≡ without_return raw ∷ []
+unfolding lines_of
+lines_of-last raw h some = ap (λ (pieces : List (List ℕ)). map without_return pieces) (raw_lines-last raw h some)
+
+pub whole_lines-none : (raw : List ℕ) → HasNoFeed raw → whole_lines raw ≡ []
+unfolding whole_lines
+whole_lines-none raw h = ap (λ (pieces : List (List ℕ)). map without_return pieces) (whole_raw_lines-none raw h)
+
+pub lines_of-nil : lines_of [] ≡ []
+unfolding lines_of raw_lines
+lines_of-nil = refl
+
+pub HasNoFeed-append : (a b : List ℕ) → HasNoFeed a → HasNoFeed b → HasNoFeed (a ++ b)
+HasNoFeed-append a b h k =
+    let P : ℕ → Type 0 = λ b. b ≢ 10 in
+    recursion_from_All P (a ++ b) (All-append P a b (All-from_recursion P a h) (All-from_recursion P b k))
+
+-- what a search for the byte tells
+pub HasNoFeed-from_nowhere : (hay : List ℕ) (n : ℕ) → n ≤ length hay → Nowhere (Passes (is_byte 10) hay) 0 n → HasNoFeed (take n hay)
+HasNoFeed-from_nowhere hay n le none =
+    let P : ℕ → Type 0 = λ b. b ≢ 10 in
+    recursion_from_All P (take n hay) (λ k d lt.
+      let below : k < n = omega (arith, length-take-le n hay le) in
+      λ e. none k (omega arith) below (eq-eqb (get_or hay k 0) 10 (get_or_default hay k 0 d (omega arith) ∙ sym (get_or-take n hay k d below) ∙ e)))
+
+-- a front without a feed, and a rest without one
+pub HasNoFeed-behind : (bytes : List ℕ) (from n : ℕ) → from + n ≤ length bytes → HasNoFeed (take from bytes) → HasNoFeed (take n (drop from bytes)) → HasNoFeed (take (from + n) bytes)
+HasNoFeed-behind bytes from n le front later =
+    rw (take-add from n bytes) (HasNoFeed-append (take from bytes) (take n (drop from bytes)) front later)
+
+pub find_feed-none : (bytes : List ℕ) (from : ℕ) → from ≤ length bytes → HasNoFeed (take from bytes) → Nowhere (Passes (is_byte 10) (drop from bytes)) 0 (length (drop from bytes)) → HasNoFeed bytes
+find_feed-none bytes from le front none =
+    let rest : List ℕ = drop from bytes in
+    let later : HasNoFeed rest = subst (λ (r : List ℕ). HasNoFeed r) (take_all (length rest) rest (omega arith)) (HasNoFeed-from_nowhere rest (length rest) (omega arith) none) in
+    subst (λ (r : List ℕ). HasNoFeed r) (take-append-drop from bytes) (HasNoFeed-append (take from bytes) rest front later)
+
+pub find_feed-some : (bytes : List ℕ) (from k : ℕ) → from ≤ length bytes → HasNoFeed (take from bytes) → NoneBefore (Passes (is_byte 10) (drop from bytes)) 0 (length (drop from bytes)) k → Passes (is_byte 10) (drop from bytes) k → IsFeedAt bytes (from + k)
+find_feed-some bytes from k le front none hit =
+    let lt : k < length (drop from bytes) = none.high in
+    record {
+      within = omega (arith, length-drop from bytes);
+      before = HasNoFeed-behind bytes from k (omega (arith, length-drop from bytes)) front (HasNoFeed-from_nowhere (drop from bytes) k (omega arith) none.before);
+      feed = sym (get_or-drop from bytes k 0) ∙ eqb-true (get_or (drop from bytes) k 0) 10 hit;
+    }
+
+pub without_return-return : (raw : List ℕ) → get_or raw (length raw - 1) 0 ≡ 13 → without_return raw ≡ take (length raw - 1) raw
+unfolding without_return
+without_return-return raw e = rw e refl
+
+pub without_return-plain : (raw : List ℕ) → (get_or raw (length raw - 1) 0 ≡ 13 → ⊥) → without_return raw ≡ raw
+unfolding without_return
+without_return-plain raw ne = rw (ne_eqb (get_or raw (length raw - 1) 0) 13 ne) refl
+
+pub without_return-nil : (raw : List ℕ) → length raw ≡ 0 → without_return raw ≡ raw
+without_return-nil [] e = without_return-plain [] (λ f. omega arith)
+without_return-nil (b ∷ bs) e = absurd (omega arith)
