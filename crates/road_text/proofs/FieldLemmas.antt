@@ -7,7 +7,7 @@ use Rattle.std.proofs.lemmas.List.Edits.{between_more, length-between}
 use Rattle.std.proofs.lemmas.Bool.{cases_lt, both_ways}
 use Rattle.std.proofs.lemmas.List.Splits.{slice_split_at, slice_split_none, slice_split-cons_yes}
 use Rattle.std.proofs.lemmas.List.Elements.{All-from_recursion, recursion_from_All, All-push}
-use Rattle.road_text.specs.Fields.{is_blank, has_bytes, fields_of, first_byte}
+use Rattle.road_text.specs.Fields.{is_blank, has_bytes, fields_of, first_byte, or_first}
 
 pub fields_of-nil : fields_of [] ≡ []
 unfolding fields_of
@@ -97,3 +97,10 @@ fields_of-none line from to same starts stops =
         absurd (both_ways (is_blank (get_or line from 0)) (starts below) yes))
       (λ (past : length line ≤ from). fields_of-past line from past)
       (cases_lt from (length line))
+
+-- a line in two parts
+pub first_byte-append : (a b : List ℕ) → first_byte (a ++ b) ≡ or_first (first_byte a) (first_byte b)
+unfolding first_byte
+first_byte-append [] b = refl
+first_byte-append (x ∷ xs) b =
+    elim (is_blank x) as (λ t. cond t (first_byte (xs ++ b)) (Some x) ≡ or_first (cond t (first_byte xs) (Some x)) (first_byte b)) [ true ↦ first_byte-append xs b | false ↦ refl ]

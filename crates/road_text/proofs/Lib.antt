@@ -2,3 +2,4 @@ pub mod FieldLemmas
 pub mod NumberLemmas
 pub mod LineLemmas
 pub mod HeldLemmas
+pub mod SkipLemmas

@@ -5,8 +5,8 @@ use Rattle.std.proofs.lemmas.Bool.{ne_eqb}
 use Rattle.std.proofs.lemmas.List.{append-nil, length-append, length_push}
 use Rattle.std.proofs.lemmas.List.Elements.{All-from_recursion, recursion_from_All, All-append}
 use Rattle.memchr.specs.Find.{Nowhere, NoneBefore, Passes, is_byte}
-use Rattle.std.proofs.lemmas.List.{get_or_default, get_or-drop, get_or-take, length-take-le, length-drop, take-append-drop, take_all}
-use Rattle.std.proofs.lemmas.Bool.{eq-eqb, eqb-true}
+use Rattle.std.proofs.lemmas.List.{get_or_default, get_or-drop, get_or-take, length-take-le, length-drop, take-append-drop, take_all, drop_more}
+use Rattle.std.proofs.lemmas.Bool.{eq-eqb, eqb-true, cases_eq}
 use Rattle.road_text.specs.Filling.{IsFeedAt}
 use Rattle.road_text.specs.Lines.{raw_lines, whole_raw_lines, onto_whole, without_return, lines_of, whole_lines, HasNoFeed}
 
@@ -101,3 +101,15 @@ without_return-plain raw ne = rw (ne_eqb (get_or raw (length raw - 1) 0) 13 ne) 
 pub without_return-nil : (raw : List ℕ) → length raw ≡ 0 → without_return raw ≡ raw
 without_return-nil [] e = without_return-plain [] (λ f. omega arith)
 without_return-nil (b ∷ bs) e = absurd (omega arith)
+
+pub without_return-length : (raw : List ℕ) → length raw ≤ length (without_return raw) + 1
+without_return-length raw =
+    ⊎_elim
+      (λ (e : get_or raw (length raw - 1) 0 ≡ 13). omega (arith, ap length (without_return-return raw e), length-take-le (length raw - 1) raw (omega arith)))
+      (λ (ne : get_or raw (length raw - 1) 0 ≡ 13 → ⊥). omega (arith, ap length (without_return-plain raw ne)))
+      (cases_eq (get_or raw (length raw - 1) 0) 13)
+
+-- bytes up to their first line feed, the feed, and what is behind it
+pub feed-parts : (bytes : List ℕ) (k : ℕ) → IsFeedAt bytes k → bytes ≡ take k bytes ++ 10 ∷ drop (k + 1) bytes
+feed-parts bytes k at' =
+    sym (take-append-drop k bytes) ∙ ap (λ (r : List ℕ). take k bytes ++ r) (drop_more bytes k 0 at'.within ∙ ap (λ (b : ℕ). b ∷ drop (k + 1) bytes) at'.feed)

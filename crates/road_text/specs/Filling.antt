@@ -4,8 +4,8 @@
 --   HandsOut           the reader shows this raw line, or says that it is too long
 --   Grows              which bytes a try to read more put behind those that were held
 --   Gives              what such a try took from the source, where it tells
---   Absorbs            a line that is too long went on over these bytes
-use Rattle.std.specs.Prelude.{◌≡◌, ℕ, ◌+◌, ◌<◌, ◌≤◌, Bool, true, false, List, [], ◌∷◌, ◌++◌, Option, None, Some, length, take, slice_index}
+--   Finishes           the held bytes are handed out at the source's end
+use Rattle.std.specs.Prelude.{◌≡◌, ℕ, ◌+◌, ◌<◌, ◌≤◌, Bool, true, false, List, [], ◌∷◌, ◌++◌, Option, length, take, slice_index}
 use Rattle.road_text.specs.declared.line_reader.LineReader.{LineReader}
 use Rattle.road_text.specs.declared.line_reader.Advance.{Advance}
 use Rattle.road_text.specs.declared.line_reader.Advance.TheVariants.{Whole, Last, Long, End, Spent, Failed}
@@ -13,7 +13,7 @@ use Rattle.road_text.specs.declared.line_reader.Fill.{Fill}
 use Rattle.road_text.specs.declared.line_reader.Fill.TheVariants as fill
 use Rattle.road_text.specs.Lines.{HasNoFeed, without_return}
 use Rattle.road_text.specs.Fields.{first_byte}
-use Rattle.road_text.specs.Reader.{held, line_of, budget, Shows, IsTooLong}
+use Rattle.road_text.specs.Reader.{held, line_of, budget, HasTaken, Shows, IsTooLong}
 
 pub record IsFeedAt (bytes : List ℕ) (k : ℕ) : Type 0 where
   pub within : k < length bytes
@@ -58,6 +58,11 @@ Gives old new before after fill.End = (before ≡ []) × (after ≡ [])
 Gives old new before after fill.Spent = (byte : ℕ) × (before ≡ byte ∷ after) × (length (held old) ≡ budget old)
 Gives old new before after fill.Failed = after ≡ before
 
-abbrev pub or_first : Option ℕ → Option ℕ → Option ℕ
-or_first None later = later
-or_first (Some b) later = Some b
+abbrev pub Finishes : LineReader → LineReader → Advance → Type 0
+Finishes old new End = (held old ≡ []) × (new.longest ≡ old.longest)
+Finishes old new Last = (0 < length (held old)) × (held new ≡ []) × HasTaken old new (length (held old)) × Shows new (held old)
+Finishes old new (Long false first) = (0 < length (held old)) × (held new ≡ []) × HasTaken old new (length (held old)) × IsTooLong old.longest (held old) first
+Finishes old new (Long true first) = ⊥
+Finishes old new Whole = ⊥
+Finishes old new Spent = ⊥
+Finishes old new Failed = ⊥

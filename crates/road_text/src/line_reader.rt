@@ -5,7 +5,7 @@ ghost use Rattle.road_io.specs.Told.{IfTold};
 ghost use Rattle.road_io.specs.Count.{HasRisen};
 ghost use Rattle.road_io.specs.Source.{Reads};
 ghost use Rattle.road_text.specs.Lines.{HasNoFeed};
-ghost use Rattle.road_text.specs.Fields.{first_byte};
+ghost use Rattle.road_text.specs.Fields.{first_byte, or_first};
 ghost use Rattle.road_text.specs.declared.line_reader.TheConstants.{ROOM, MOST_KEPT};
 
 use crate::feeds::{find_feed, line_len};
@@ -75,8 +75,8 @@ pub struct LineReader {
 }
 
 impl LineReader {
-    ghost use Rattle.road_text.specs.Reader.{held, line_of, budget, IsFresh, IsLine, HasTaken};
-    ghost use Rattle.road_text.specs.Filling.{IsFeedAt, IsSameStock, HandsOut, IsKept, Grows, Gives};
+    ghost use Rattle.road_text.specs.Reader.{held, line_of, budget, IsFresh, IsLine, HasTaken, Steps, GoesOn};
+    ghost use Rattle.road_text.specs.Filling.{IsFeedAt, IsSameStock, HandsOut, IsKept, Grows, Gives, Finishes};
 
     /// A reader that shows lines of up to `longest` bytes, their ends not counted, and lets its
     /// source have up to `most` bytes. It takes its memory here and none later.
@@ -225,6 +225,104 @@ impl LineReader {
         } else {
             self.pull(source)
         }
+    }
+
+    /// Passes over the held bytes.
+    fn forget(&mut self)
+        ensures empty { held self.new ≡ [] }
+        ensures taken { HasTaken self.old self.new (length (held self.old)) }
+    {
+        self.start = self.end;
+    }
+
+    /// Goes to the end of a line that is too long, of which all held bytes are.
+    fn skip<S: Source>(&mut self, source: &mut S) -> Advance
+        requires no_feed { HasNoFeed (held self.old) }
+        requires long { self.old.longest + 1 < length (held self.old) }
+        ensures steps { IfTold (S.left source.old) (S.left source.new)
+            (λ rest after. Steps self.old self.new (held self.old ++ rest) after result) }
+        ensures falls { GoesOn result → budget self.new < budget self.old }
+        ensures longest { self.new.longest ≡ self.old.longest }
+        ensures count { S.faults source.old ≤ S.faults source.new }
+        ensures cause { result ≡ Advance.Failed
+            → HasRisen (S.faults source.old) (S.faults source.new) }
+    {
+        let mut first = first_byte(&self.buffer[self.start..self.end]);
+        self.forget();
+        'pieces: loop {
+            match self.fill(source) {
+                Fill::More => {}
+                Fill::End => return Advance::Long { whole: false, first },
+                Fill::Spent => return Advance::Spent,
+                Fill::Failed => return Advance::Failed,
+            }
+            let piece = &self.buffer[self.start..self.end];
+            match find_feed(piece, 0) {
+                Some(size) => {
+                    first = first_of(first, &piece[..size]);
+                    self.start += size + 1;
+                    return Advance::Long { whole: true, first };
+                }
+                None => {
+                    first = first_of(first, piece);
+                    self.forget();
+                }
+            }
+        }
+    }
+
+    /// Goes on to the next line.
+    ///
+    /// After `Last`, `End`, `Spent` and `Failed` nothing is owed of further steps. A step takes time
+    /// in proportion to the bytes that it passes over, and no memory.
+    pub fn advance<S: Source>(&mut self, source: &mut S) -> Advance
+        ensures steps { IfTold (S.left source.old) (S.left source.new)
+            (λ rest after. Steps self.old self.new (held self.old ++ rest) after result) }
+        // A caller's loop ends, since its lines take up what the source may give.
+        ensures falls { GoesOn result → budget self.new < budget self.old }
+        ensures longest { self.new.longest ≡ self.old.longest }
+        ensures count { S.faults source.old ≤ S.faults source.new }
+        ensures cause { result ≡ Advance.Failed
+            → HasRisen (S.faults source.old) (S.faults source.new) }
+    {
+        let mut seen = 0;
+        'pieces: loop {
+            if let Some(size) = find_feed(&self.buffer[self.start..self.end], seen) {
+                return self.whole(size);
+            }
+            seen = self.end - self.start;
+            if seen > self.longest + 1 {
+                return self.skip(source);
+            }
+            match self.fill(source) {
+                Fill::More => {}
+                Fill::End => return self.finish(),
+                Fill::Spent => return Advance::Spent,
+                Fill::Failed => return Advance::Failed,
+            }
+        }
+    }
+
+    /// Hands out the held bytes at the source's end.
+    fn finish(&mut self) -> Advance
+        requires { HasNoFeed (held self.old) }
+        ensures { Finishes self.old self.new result }
+    {
+        if self.start == self.end {
+            Advance::End
+        } else {
+            self.last()
+        }
+    }
+}
+
+/// The first byte that isn't blank of a line that began before and goes on with these bytes.
+fn first_of(first: Option<u8>, bytes: &[u8]) -> Option<u8>
+    ensures { result ≡ or_first first (first_byte bytes.now) }
+{
+    match first {
+        Some(byte) => Some(byte),
+        None => first_byte(bytes),
     }
 }
 
