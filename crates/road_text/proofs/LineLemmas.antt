@@ -1,13 +1,15 @@
 -- How a text goes on behind a line of it.
-use Rattle.std.proofs.Common.{◌≡◌, ◌≢◌, ℕ, ◌+◌, ◌-◌, ◌<◌, ◌≤◌, Bool, true, false, cond, eqb, List, [], ◌∷◌, ◌++◌, length, map, get_or, drop, take, Option, Some, None, refl, sym, ap, ◌∙◌, arith, ⊎_elim, append_assoc, subst, take-add}
+use Rattle.std.proofs.Common.{◌≡◌, ◌≢◌, ℕ, ◌+◌, ◌-◌, ◌<◌, ◌≤◌, Bool, true, false, cond, eqb, List, [], ◌∷◌, ◌++◌, length, map, get_or, drop, take, Option, Some, None, refl, sym, ap, ◌∙◌, arith, ⊎_elim, append_assoc, subst, take-add, ◌⊎◌, inl, inr}
 use Rattle.std.specs.List.{AllByRecursion, onto_first}
 use Rattle.std.proofs.lemmas.Bool.{ne_eqb}
 use Rattle.std.proofs.lemmas.List.{append-nil, length-append, length_push}
 use Rattle.std.proofs.lemmas.List.Elements.{All-from_recursion, recursion_from_All, All-append}
 use Rattle.memchr.specs.Find.{Nowhere, NoneBefore, Passes, is_byte}
-use Rattle.std.proofs.lemmas.List.{get_or_default, get_or-drop, get_or-take, length-take-le, length-drop, take-append-drop, take_all, drop_more}
-use Rattle.std.proofs.lemmas.Bool.{eq-eqb, eqb-true, cases_eq}
+use Rattle.std.proofs.lemmas.List.{get_or_default, get_or-drop, get_or-take, length-take-le, length-drop, take-append-drop, take_all, drop_more, drop_all}
+use Rattle.std.proofs.lemmas.Bool.{eq-eqb, eqb-true, cases_eq, cases_lt}
 use Rattle.road_text.specs.Filling.{IsFeedAt}
+use Rattle.road_text.specs.Fields.{first_byte, or_first}
+use Rattle.road_text.proofs.FieldLemmas.{first_byte-append, first_byte-stop}
 use Rattle.road_text.specs.Lines.{raw_lines, whole_raw_lines, onto_whole, without_return, lines_of, whole_lines, HasNoFeed}
 
 pub raw_lines-line : (raw rest : List ℕ) → HasNoFeed raw → raw_lines (raw ++ 10 ∷ rest) ≡ raw ∷ raw_lines rest
@@ -113,3 +115,29 @@ without_return-length raw =
 pub feed-parts : (bytes : List ℕ) (k : ℕ) → IsFeedAt bytes k → bytes ≡ take k bytes ++ 10 ∷ drop (k + 1) bytes
 feed-parts bytes k at' =
     sym (take-append-drop k bytes) ∙ ap (λ (r : List ℕ). take k bytes ++ r) (drop_more bytes k 0 at'.within ∙ ap (λ (b : ℕ). b ∷ drop (k + 1) bytes) at'.feed)
+
+-- a dropped carriage return is the first byte that isn't blank only of a line that has no other
+pub record IsFirstOf (raw_first line_first : Option ℕ) : Type 0 where
+  pub cases : (raw_first ≡ line_first) ⊎ ((raw_first ≡ Some 13) × (line_first ≡ None))
+
+or_return : (first : Option ℕ) → IsFirstOf (or_first first (Some 13)) first
+or_return None = record { cases = inr (refl, refl) }
+or_return (Some b) = record { cases = inl refl }
+
+pub first_byte-without_return : (raw : List ℕ) → IsFirstOf (first_byte raw) (first_byte (without_return raw))
+first_byte-without_return raw =
+    let n : ℕ = length raw - 1 in
+    let S : Option ℕ → Option ℕ → Type 0 = IsFirstOf in
+    ⊎_elim
+      (λ (e : get_or raw n 0 ≡ 13).
+        ⊎_elim
+          (λ (some : 0 < length raw).
+            let parts : raw ≡ take n raw ++ 13 ∷ [] = sym (take-append-drop n raw) ∙ ap (λ (r : List ℕ). take n raw ++ r) (drop_more raw n 0 (omega arith) ∙ ap (λ (r : List ℕ). get_or raw n 0 ∷ r) (drop_all (n + 1) raw (omega arith)) ∙ ap (λ (b : ℕ). b ∷ []) e) in
+            let whole : first_byte raw ≡ or_first (first_byte (take n raw)) (Some 13) = ap first_byte parts ∙ first_byte-append (take n raw) (13 ∷ []) ∙ ap (or_first (first_byte (take n raw))) (first_byte-stop 13 [] refl) in
+            subst (λ (o : Option ℕ). IsFirstOf o (first_byte (without_return raw))) (sym whole) (subst (λ (r : List ℕ). IsFirstOf (or_first (first_byte (take n raw)) (Some 13)) (first_byte r)) (sym (without_return-return raw e)) (or_return (first_byte (take n raw)))))
+          (λ (none : length raw ≤ 0).
+            record { cases = inl (ap first_byte (sym (without_return-nil raw (omega arith)))) })
+          (cases_lt 0 (length raw)))
+      (λ (ne : get_or raw n 0 ≡ 13 → ⊥).
+        record { cases = inl (ap first_byte (sym (without_return-plain raw ne))) })
+      (cases_eq (get_or raw n 0) 13)
