@@ -1,0 +1,4 @@
+pub mod Vias
+pub mod Listings
+pub mod OneVerdict
+pub mod Parts

@@ -1,0 +1,13 @@
+pub mod Graph
+pub mod Walk
+pub mod Dist
+pub mod File
+pub mod Canonical
+pub mod Fraction
+pub mod Changes
+pub mod Places
+pub mod Tests
+pub mod ViaWalk
+pub mod Alternatives
+pub mod Answers
+pub mod Verdicts
