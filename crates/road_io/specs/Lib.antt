@@ -3,3 +3,8 @@ pub mod Count
 pub mod Source
 pub mod Sink
 pub mod Shelf
+pub mod Calls
+pub mod Memory
+pub mod MemForms
+pub mod SureForms
+pub mod Adapters

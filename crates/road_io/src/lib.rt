@@ -6,10 +6,22 @@
 //! memory, and isn't told where it is a file, a socket or a terminal.
 #![tactic(auto)]
 
+mod adapters;
+mod calls;
+mod memory;
 mod reading;
 mod shelves;
+mod sure;
+mod texts;
 mod writing;
 
+pub use adapters::{FileShelf, StdinSource, StdoutSink};
+pub use memory::{MemShelf, MemSink, MemSource};
 pub use reading::{Read, Source};
 pub use shelves::{Picked, Shelf};
+pub use sure::{SureShelf, SureSink, SureSource};
+pub use texts::NamedFile;
 pub use writing::{Put, Sink};
+
+#[cfg(test)]
+mod tests;
