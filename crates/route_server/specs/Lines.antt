@@ -1,4 +1,5 @@
 -- What a request line asks.
+--   most_input      the most bytes of requests that a run reads
 --   two_of rest     two canonical numbers with one space between them, and nothing else
 --   asked_of line   `optimum S T`: the optimum from S to T; any other line: nothing that is known
 use Rattle.std.specs.Prelude.{ℕ, ◌==◌, Bool, List, Option, Some, None, drop, nat_eq, codes, if◌then◌else◌}
@@ -6,6 +7,9 @@ use Rattle.std.specs.List.{starts_with, before_first, after_first}
 use Rattle.road_text.specs.Numbers.{canonical_of}
 use Rattle.route_server.specs.declared.lines.Asked.{Asked}
 use Rattle.route_server.specs.declared.lines.Asked.TheVariants.{Best, Other}
+
+abbrev pub most_input : ℕ
+most_input = 4294967296
 
 abbrev pub is_space : ℕ → Bool
 is_space b = b == 32

@@ -1,5 +1,6 @@
 //! The program `road` as one call over the words, the files, the input and the output that it is handed.
 #![tactic(auto)]
 
+mod input;
 mod lines;
 mod replies;
