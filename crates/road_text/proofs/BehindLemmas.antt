@@ -1,7 +1,6 @@
 -- How far a text has been read, and what each step of a reader makes of it.
 --   IsBehind most spare text rest before   the text goes on with this rest behind the lines before, which all
 --                                          have their line feeds; of most bytes the lines to come may take spare
---   IsLongLine                             a line that the reader didn't show
 -- A text and its rest are what a source tells, with what the reader holds.
 use Rattle.std.proofs.Common.{◌≡◌, ℕ, ◌+◌, ◌-◌, ◌<◌, ◌≤◌, true, false, List, [], ◌∷◌, ◌++◌, length, drop, take, Option, Some, None, refl, sym, ap, ◌∙◌, arith, append_assoc, subst}
 use Rattle.std.proofs.lemmas.List.{append-nil, length-append, take_at}
@@ -9,8 +8,8 @@ use Rattle.road_text.specs.declared.line_reader.LineReader.{LineReader}
 use Rattle.road_text.specs.declared.line_reader.Advance.TheVariants.{Whole, Last, Long, End, Spent, Failed}
 use Rattle.road_text.specs.Lines.{lines_of, whole_lines, without_return, HasNoFeed}
 use Rattle.road_text.specs.Fields.{first_byte}
-use Rattle.road_text.specs.Reader.{held, line_of, budget, IsFresh, IsLine, IsLastLine, Steps}
-use Rattle.road_text.proofs.LineLemmas.{lines_of-line, lines_of-last, lines_of-nil, whole_lines-line, whole_lines-none, IsFirstOf, first_byte-without_return}
+use Rattle.road_text.specs.Reader.{held, line_of, budget, IsFresh, IsLine, IsLastLine, IsFirstOf, IsLongLine, Steps}
+use Rattle.road_text.proofs.LineLemmas.{lines_of-line, lines_of-last, lines_of-nil, whole_lines-line, whole_lines-none, first_byte-without_return}
 
 pub record IsBehind (most spare : ℕ) (text rest : List ℕ) (before : List (List ℕ)) : Type 0 where
   pub given : List ℕ
@@ -18,10 +17,6 @@ pub record IsBehind (most spare : ℕ) (text rest : List ℕ) (before : List (Li
   pub lines : (more : List ℕ) → lines_of (given ++ more) ≡ before ++ lines_of more
   pub whole : (more : List ℕ) → whole_lines (given ++ more) ≡ before ++ whole_lines more
   pub count : length given + spare ≡ most
-
-pub record IsLongLine (longest : ℕ) (line : List ℕ) (first : Option ℕ) : Type 0 where
-  pub long : longest < length line
-  pub first_is : IsFirstOf first (first_byte line)
 
 -- nothing was read
 pub IsBehind-start : (most : ℕ) (text : List ℕ) → IsBehind most most text text []

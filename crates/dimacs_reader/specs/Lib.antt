@@ -1,0 +1,4 @@
+pub mod Gr
+pub mod Judging
+pub mod Building
+pub mod Reads

@@ -1,0 +1,10 @@
+//! Graph files: the `.gr` form of the shortest path challenge, read from any source.
+#![tactic(auto)]
+
+mod builder;
+mod fault;
+mod judge;
+mod line;
+
+pub use fault::{GraphError, GraphFault, GraphKind};
+pub use line::{MAX_FILE, MAX_LINE};
