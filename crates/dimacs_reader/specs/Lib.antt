@@ -2,3 +2,4 @@ pub mod Gr
 pub mod Judging
 pub mod Building
 pub mod Reads
+pub mod Gathering
