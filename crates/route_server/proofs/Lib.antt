@@ -1,3 +1,4 @@
 pub mod LineLemmas
 pub mod LongLines
 pub mod InputLemmas
+pub mod ServingLemmas

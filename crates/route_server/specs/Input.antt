@@ -8,7 +8,7 @@
 use Rattle.std.specs.Prelude.{◌≡◌, ℕ, List, [], ◌∷◌, ◌++◌}
 use Rattle.road_text.specs.declared.line_reader.LineReader.{LineReader}
 use Rattle.road_text.specs.Reader.{held, budget}
-use Rattle.road_text.proofs.BehindLemmas.{IsBehind, IsRead, IsOver, IsBroken}
+use Rattle.road_text.specs.Behind.{IsBehind, IsRead, IsOver, IsBroken}
 use Rattle.route_server.specs.declared.lines.Asked.{Asked}
 use Rattle.route_server.specs.declared.input.NextLine.{NextLine}
 use Rattle.route_server.specs.declared.input.NextLine.TheVariants as the

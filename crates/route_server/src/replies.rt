@@ -2,10 +2,15 @@
 
 ghost use Rattle.std.specs.Prelude.{◌≡◌, ◌++◌, OnOk, codes, decimal};
 ghost use Rattle.route_server.specs.Replies.{arcs_text, best_text, line_text, none_text, optimum_text};
+ghost use Rattle.route_server.specs.Serving.{IsReplyTo, is_vertex};
 
-use road_model::{ArcNo, Optimum};
+
+use crate::lines::Asked;
+use canonical_trees::optimum;
+use forward_star::Star;
+use road_model::{ArcNo, Network, NoMemory, Optimum, Vertex};
 use road_text::push_number;
-use std::alloc::AllocError;
+use std::alloc::{AllocError, Global};
 
 /// Appends the numbers of a walk, each behind a space.
 fn push_arcs(out: &mut Vec<u8>, arcs: &[ArcNo]) -> Result<(), AllocError>
@@ -58,4 +63,34 @@ pub fn push_none(out: &mut Vec<u8>, number: u64) -> Result<(), AllocError>
     ensures { OnOk result (out.new.items ≡ out.old.items ++ none_text number) }
 {
     push_between(out, b"none ", number, b"\n")
+}
+
+/// Whether a number is one of the vertices.
+fn is_vertex(vertices: u32, number: u64) -> bool
+    ensures { result ≡ is_vertex vertices number }
+{
+    1 <= number && number <= u64::from(vertices)
+}
+
+/// Puts the reply to a request into the buffer, in the place of what it held.
+pub fn reply_to(
+    alloc: Global,
+    star: &Star,
+    asked: Asked,
+    reply: &mut Vec<u8>,
+) -> Result<(), NoMemory>
+    ensures { OnOk result (IsReplyTo star.now asked reply.new.items) }
+{
+    reply.clear();
+    let Asked::Best { from, to } = asked else {
+        return reply.extend_from_slice(b"error syntax\n");
+    };
+    let vertices = star.vertices();
+    if !is_vertex(vertices, from) || !is_vertex(vertices, to) {
+        return reply.extend_from_slice(b"error vertex\n");
+    }
+    match optimum(alloc, star, Vertex(from as u32), Vertex(to as u32))? {
+        Some(optimum) => push_best(reply, 1, &optimum),
+        None => push_none(reply, 1),
+    }
 }
