@@ -11,7 +11,7 @@
 --   IsSearch g goal limit labels queue v n   labels are lengths of walks; each labelled vertex below the limit
 --                          waits in the queue or is relaxed, but for v, of which the first n steps are
 --   IsSettled g root limit labels   the vertices within the limit have their distance, the others are beyond it
---   Begins goal limit f    its root alone has a label
+--   Begins goal f          its root alone has a label
 --   work_left f            falls with each entry that is taken out
 use Rattle.std.specs.Prelude.{◌≡◌, ◌≢◌, ◌<◌, ◌≤◌, ◌+◌, ◌*◌, ◌^◌, ◌⊎◌, ℕ, List, [], ◌∷◌, Some, length, sum, slice_index, slice_set, All, Contains, nat_eq}
 use Rattle.std.specs.List.{IsDistinct}
@@ -89,9 +89,8 @@ abbrev pub work_left : Front → ℕ
 work_left f = 2 * sum f.labels.items + length f.queue
 
 -- a search that has labelled its root
-pub record Begins (goal : Goal) (limit : ℕ) (f : Front) : Type 0 where
+pub record Begins (goal : Goal) (f : Front) : Type 0 where
   pub listed : IsListed goal.radius f.labels.items f.touched.items
   pub root : slice_index f.labels.items goal.root ≡ 0
   pub others : (x : ℕ) → x < length f.labels.items → x ≢ goal.root → slice_index f.labels.items x ≡ far
   pub queue : IsPermutation (record { distance = 0; vertex = goal.root } ∷ []) f.queue
-  pub limit_is : ((goal.root ≡ goal.target) × (limit ≡ 0)) ⊎ ((goal.root ≢ goal.target) × (limit ≡ goal.radius))

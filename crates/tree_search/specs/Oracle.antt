@@ -2,7 +2,7 @@
 --   Questions      its graph, and how many questions it answered
 --   IsReady g f    all lengths and distances are below 2^57, and its search can be reset
 use Rattle.std.specs.Prelude.{◌≡◌, ◌+◌, ◌^◌, ℕ, length}
-use Rattle.road_model.specs.Graph.{Graph, IsGraph, LengthsBelow}
+use Rattle.road_model.specs.Graph.{Graph, LengthsBelow}
 use Rattle.road_model.specs.Dist.{DistsBelow}
 use Rattle.tree_search.specs.declared.front.Front.{Front}
 use Rattle.tree_search.specs.Front.{IsTracked}

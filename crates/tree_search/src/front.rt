@@ -1,6 +1,6 @@
-ghost use Rattle.std.specs.Prelude.{◌≡◌, ◌<◌, ◌≤◌, ◌+◌, ◌*◌, ◌^◌, ◌⊎◌, ℕ, length, sum, slice_index, IfOk};
+ghost use Rattle.std.specs.Prelude.{All, ◌≡◌, ◌≢◌, ◌<◌, ◌≤◌, ◌+◌, ◌^◌, ◌⊎◌, [], ◌∷◌, ◌++◌, length, slice_index, slice_set, IfOk, OnOk, OnErr, IsPermutation, ◌==◌, if◌then◌else◌};
 ghost use Rattle.road_model.specs.Graph.{IsGraph, IsVertex, LengthsBelow};
-ghost use Rattle.tree_search.specs.Front.{IsFresh, IsTracked, IsListed, Stays, Betters, IsSearch, IsSettled, IsAimed, work_left, Begins};
+ghost use Rattle.tree_search.specs.Front.{far, IsFresh, IsTracked, IsListed, Stays, Betters, IsSearch, IsSettled, IsAimed, work_left, Begins};
 
 use crate::queue::{Entry, Queue};
 use road_model::{Network, NoMemory, Vertex};
@@ -27,6 +27,47 @@ pub struct Front {
     pub settled: u64,
 }
 
+// The limit of a search that has labelled its root.
+fn first_limit(goal: Goal) -> u64
+    ensures { ((goal.root ≡ goal.target) × (result ≡ 0)) ⊎ ((goal.root ≢ goal.target) × (result ≡ goal.radius)) }
+{
+    if goal.root == goal.target {
+        0
+    } else {
+        goal.radius
+    }
+}
+
+// The limit once a vertex got a label: that of the target is the greatest that matters.
+#[inline(always)]
+fn limit_after(target: u32, limit: u64, head: u32, distance: u64) -> u64
+    ensures { ((head ≡ target) × (result ≡ distance)) ⊎ ((head ≢ target) × (result ≡ limit)) }
+{
+    if head == target { distance } else { limit }
+}
+
+// Takes the labels of these vertices back.
+fn take_back(labels: &mut [u64], touched: &[Vertex])
+    requires { IsTracked labels.old touched.now }
+    ensures { All (λ x. x ≡ far) labels.new }
+{
+    for v in touched {
+        labels[v.number() as usize] = FAR;
+    }
+}
+
+// Lists a vertex that has no label yet.
+#[inline(always)]
+fn touch(touched: &mut Vec<Vertex>, label: u64, head: Vertex) -> Result<(), NoMemory>
+    ensures ok { OnOk result (touched.new.items ≡ (if label == far then touched.old.items ++ head ∷ [] else touched.old.items)) }
+    ensures err { OnErr result (touched.new.items ≡ touched.old.items) }
+{
+    if label == FAR {
+        touched.push(head)?;
+    }
+    Ok(())
+}
+
 impl Front {
     /// No label yet.
     pub fn new(alloc: Global, vertices: u32) -> Result<Front, NoMemory>
@@ -48,21 +89,19 @@ impl Front {
         ensures size { length self.new.labels.items ≡ length self.old.labels.items }
         ensures fresh { IsFresh self.new }
     {
-        for v in &self.touched {
-            self.labels[v.number() as usize] = FAR;
-        }
+        take_back(&mut self.labels, &self.touched);
         self.touched.clear();
         self.queue.clear();
     }
 
     // Gives the root its label.
-    fn begin(&mut self, goal: Goal) -> Result<u64, NoMemory>
+    fn begin(&mut self, goal: Goal) -> Result<(), NoMemory>
         requires inside { goal.root < length self.old.labels.items }
         requires fresh { IsFresh self.old }
         requires low { goal.radius < 2 ^ 60 }
         ensures size { length self.new.labels.items ≡ length self.old.labels.items }
         ensures tracked { IsTracked self.new.labels.items self.new.touched.items }
-        ensures ok { IfOk result (λ limit. Begins goal limit self.new) }
+        ensures ok { OnOk result (Begins goal self.new) }
     {
         self.touched.push(Vertex(goal.root))?;
         self.queue.push(Entry {
@@ -70,14 +109,36 @@ impl Front {
             vertex: goal.root,
         })?;
         self.labels[goal.root as usize] = 0;
-        if goal.root == goal.target {
-            Ok(0)
-        } else {
-            Ok(goal.radius)
-        }
+        Ok(())
     }
 
-    // Takes the length of a walk to `head` as its label, where that betters it.
+    // Gives a vertex a better label, and queues it.
+    #[inline]
+    fn give(&mut self, goal: Goal, head: Vertex, distance: u64) -> Result<(), NoMemory>
+        requires inside { head < length self.old.labels.items }
+        requires tracked { IsTracked self.old.labels.items self.old.touched.items }
+        requires listed { IsListed goal.radius self.old.labels.items self.old.touched.items }
+        requires within { distance ≤ goal.radius }
+        requires better { distance < slice_index self.old.labels.items head }
+        ensures size { length self.new.labels.items ≡ length self.old.labels.items }
+        ensures tracked { IsTracked self.new.labels.items self.new.touched.items }
+        ensures work { work_left self.new ≤ work_left self.old }
+        ensures listed { OnOk result (IsListed goal.radius self.new.labels.items self.new.touched.items) }
+        ensures labels { OnOk result (self.new.labels.items ≡ slice_set self.old.labels.items head distance) }
+        ensures queue { OnOk result
+            (IsPermutation (record { distance = distance; vertex = head } ∷ self.old.queue) self.new.queue) }
+    {
+        let at = head.number() as usize;
+        touch(&mut self.touched, self.labels[at], head)?;
+        self.queue.push(Entry {
+            distance,
+            vertex: head.number(),
+        })?;
+        self.labels[at] = distance;
+        Ok(())
+    }
+
+    // Takes the length of a walk to `head` as its label, where that betters it, and answers the limit after.
     #[inline(always)]
     fn reach(
         &mut self,
@@ -93,29 +154,15 @@ impl Front {
         ensures size { length self.new.labels.items ≡ length self.old.labels.items }
         ensures tracked { IsTracked self.new.labels.items self.new.touched.items }
         ensures work { work_left self.new ≤ work_left self.old }
-        ensures listed { IfOk result
-            (λ _. IsListed goal.radius self.new.labels.items self.new.touched.items) }
+        ensures listed { OnOk result (IsListed goal.radius self.new.labels.items self.new.touched.items) }
         ensures reached { IfOk result (λ after. Stays limit distance head after self.old self.new
             ⊎ Betters goal.target limit distance head after self.old self.new) }
     {
-        let at = head.number() as usize;
-        let label = self.labels[at];
-        if distance > limit || distance >= label {
+        if distance > limit || distance >= self.labels[head.number() as usize] {
             return Ok(limit);
         }
-        if label == FAR {
-            self.touched.push(head)?;
-        }
-        self.queue.push(Entry {
-            distance,
-            vertex: head.number(),
-        })?;
-        self.labels[at] = distance;
-        if head.number() == goal.target {
-            Ok(distance)
-        } else {
-            Ok(limit)
-        }
+        self.give(goal, head, distance)?;
+        Ok(limit_after(goal.target, limit, head.number(), distance))
     }
 
     // Takes every step out of a vertex.
@@ -137,18 +184,19 @@ impl Front {
         ensures size { length self.new.labels.items ≡ length self.old.labels.items }
         ensures tracked { IsTracked self.new.labels.items self.new.touched.items }
         ensures work { work_left self.new ≤ work_left self.old }
-        ensures listed { IfOk result
-            (λ _. IsListed goal.radius self.new.labels.items self.new.touched.items) }
+        ensures listed { OnOk result (IsListed goal.radius self.new.labels.items self.new.touched.items) }
         ensures search { IfOk result (λ after.
             IsSearch (N.graph net.now) goal after self.new.labels.items self.new.queue 0 0) }
     {
-        let mut limit = limit;
+        let mut within = limit;
         let mut i = 0u32;
         'steps: while let Some(step) = net.out(Vertex(from.vertex), i) {
-            limit = self.reach(goal, limit, step.head, from.distance + step.length)?;
+            // The place of a step is below its arc's number, so the next one fits.
+            let _number = step.arc.number();
+            within = self.reach(goal, within, step.head, from.distance + step.length)?;
             i += 1;
         }
-        Ok(limit)
+        Ok(within)
     }
 
     /// Labels every vertex within the radius, and where the target is among them within its distance. It
@@ -156,19 +204,22 @@ impl Front {
     pub fn run<N: Network>(&mut self, net: &N, goal: Goal) -> Result<u64, NoMemory>
         requires short { LengthsBelow (N.graph net.now) (2 ^ 58) }
         requires root { IsVertex (N.graph net.now).vertices goal.root }
+        requires target { goal.target ≤ (N.graph net.now).vertices }
         requires low { goal.radius < 2 ^ 60 }
         requires size { length self.old.labels.items ≡ (N.graph net.now).vertices + 1 }
         requires fresh { IsFresh self.old }
         ensures size { length self.new.labels.items ≡ length self.old.labels.items }
         ensures tracked { IsTracked self.new.labels.items self.new.touched.items }
-        ensures listed { IfOk result
-            (λ _. IsListed goal.radius self.new.labels.items self.new.touched.items) }
+        ensures listed { OnOk result (IsListed goal.radius self.new.labels.items self.new.touched.items) }
+        ensures within { IfOk result (λ limit. limit ≤ goal.radius) }
+        ensures unused { OnOk result (slice_index self.new.labels.items 0 ≡ far) }
         ensures aimed { IfOk result (λ limit. IsAimed goal limit self.new.labels.items) }
         ensures settled { IfOk result (λ limit.
             IsSettled (N.graph net.now) goal.root limit self.new.labels.items) }
     {
         let _vertices = net.vertices();
-        let mut limit = self.begin(goal)?;
+        self.begin(goal)?;
+        let mut limit = first_limit(goal);
         'search: while let Some(entry) = self.queue.pop() {
             if entry.distance >= limit {
                 return Ok(limit);

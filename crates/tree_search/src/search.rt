@@ -42,10 +42,7 @@ pub fn ball<N: Network>(
         ..
     } = front;
     touched.sort_unstable();
-    Ok(Ball::new(
-        Labels::new(labels, limit),
-        VertexList::from_vec(touched),
-    ))
+    Ok(Ball::new(Labels::new(labels, limit), VertexList::from_vec(touched)))
 }
 
 /// None exactly where no walk leads from `root` to `target`; else the labels of the ball whose radius is the
