@@ -1,0 +1,2 @@
+//! Canonical shortest paths.
+#![tactic(auto)]
