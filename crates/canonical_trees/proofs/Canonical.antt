@@ -6,20 +6,9 @@ use Rattle.road_model.specs.Graph.{Graph, arc_at, length_at, row_length, IsArc, 
 use Rattle.road_model.specs.Walk.{IsWalk, walk_length}
 use Rattle.road_model.specs.Dist.{IsDist, IsShortest, NoneShorter, HasWalk}
 use Rattle.road_model.specs.Canonical.{LexLe, IsLast}
+use Rattle.canonical_trees.specs.Tight.{IsTight, IsLeastTight}
 use Rattle.road_model.proofs.Walks.{IsArc-at}
 use Rattle.road_model.proofs.Dists.{IsDist-same, dist_of_shortest}
-
--- the first arc of a shortest walk from v to t, where near is the distance behind it
-pub record IsTight (g : Graph) (t v a : ℕ) (r : ArcRow) (near : ℕ) : Type 0 where
-  pub is : arc_at g a ≡ Some r
-  pub tail : r.tail ≡ v
-  pub behind : IsDist g r.head t (Some near)
-  pub whole : IsDist g v t (Some (r.length + near))
-
--- and none of a lower number is one
-pub record IsLeastTight (g : Graph) (t v a : ℕ) (r : ArcRow) (near : ℕ) : Type 0 where
-  pub tight : IsTight g t v a r near
-  pub least : (b : ℕ) (x : ArcRow) (k : ℕ) → IsTight g t v b x k → a ≤ b
 
 -- a shortest walk begins with a tight arc, and goes on by a shortest walk
 pub record Begins (g : Graph) (t v b : ℕ) (q : List ℕ) : Type 0 where

@@ -1,3 +1,4 @@
 pub mod Turned
 pub mod Steps
 pub mod Canonical
+pub mod StepsDown

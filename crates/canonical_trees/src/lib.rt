@@ -1,2 +1,10 @@
-//! Canonical shortest paths.
+//! The canonical shortest paths from a source and to a target: of all shortest walks the one whose arc numbers,
+//! read backwards from a vertex that is reached, or forwards to the target, are least in dictionary order.
+//!
+//! A tree keeps its labels alone. The arc of a vertex is found by a scan of its arcs, at the first that is tight.
 #![tactic(auto)]
+
+mod descent;
+
+
+
