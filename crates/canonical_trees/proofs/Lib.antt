@@ -2,3 +2,6 @@ pub mod Turned
 pub mod Steps
 pub mod Canonical
 pub mod StepsDown
+pub mod Existence
+pub mod Balls
+pub mod Arcs

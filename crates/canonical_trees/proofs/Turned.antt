@@ -34,7 +34,7 @@ length-turned (Some r) = refl
 pub length_at-reversed : (g : Graph) (a : ℕ) → length_at (reversed g) a ≡ length_at g a
 length_at-reversed g a = ap row_length (arc_at-reversed g a) ∙ length-turned (arc_at g a)
 
-reverse-cons : (a : ℕ) (p : List ℕ) → reverse (a ∷ p) ≡ reverse p ++ a ∷ []
+pub reverse-cons : (a : ℕ) (p : List ℕ) → reverse (a ∷ p) ≡ reverse p ++ a ∷ []
 reverse-cons a p = reverse-append (a ∷ []) p
 
 pub walk_length-reversed : (g : Graph) (p : List ℕ) → walk_length (reversed g) p ≡ walk_length g (reverse p)
@@ -43,7 +43,7 @@ walk_length-reversed g (a ∷ p) =
     let back : walk_length g (reverse (a ∷ p)) ≡ walk_length g (reverse p ++ a ∷ []) = ap (walk_length g) (reverse-cons a p) in
     omega (arith, length_at-reversed g a, walk_length-reversed g p, back, walk_length-append g (reverse p) (a ∷ []))
 
-arc_turned : (g : Graph) (a : ℕ) (r : ArcRow) → arc_at (reversed g) a ≡ Some r → arc_at g a ≡ Some (turned r)
+pub arc_turned : (g : Graph) (a : ℕ) (r : ArcRow) → arc_at (reversed g) a ≡ Some r → arc_at g a ≡ Some (turned r)
 arc_turned g a r is =
     ap (λ (h : Graph). arc_at h a) (sym (reversed-reversed g)) ∙ arc_at-reversed (reversed g) a ∙ ap (λ (o : Option ArcRow). option_map turned o) is
 
