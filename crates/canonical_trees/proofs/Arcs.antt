@@ -8,10 +8,10 @@ use Rattle.road_model.specs.Canonical.{IsFirst, IsLast}
 use Rattle.tree_search.specs.Ball.{label_at, Reached}
 use Rattle.canonical_trees.specs.Tight.{IsRooted, IsLeastStep, IsStepDown, Adds}
 use Rattle.canonical_trees.specs.Trees.{IsLastStep, IsFirstStep, IsFromStep, IsToStep, IsLastArc, IsFirstArc, IsTreeFrom, IsTreeTo}
-use Rattle.canonical_trees.proofs.Turned.{arc_turned, reverse-cons, IsFirst-turned}
+use Rattle.canonical_trees.proofs.Turned.{arc_unreversed, reverse-cons, IsFirst-unreversed}
 use Rattle.canonical_trees.proofs.StepsDown.{IsLast-step}
 use Rattle.canonical_trees.proofs.Existence.{HasLast, last_exists}
-use Rattle.canonical_trees.proofs.Balls.{rooted_from, rooted_to, label_of, inside_of, IsInside-turned, IsLabel-turned}
+use Rattle.canonical_trees.proofs.Balls.{rooted_from, rooted_to, label_of, inside_of, IsInside-unreversed, IsLabel-unreversed}
 
 row_is : (r : ArcRow) (tail head length : ℕ) → r.tail ≡ tail → r.head ≡ head → r.length ≡ length → r ≡ record { tail = tail; head = head; length = length }
 row_is r tail head length a b c =
@@ -22,14 +22,14 @@ last_step : (g : Graph) (s v : ℕ) (radius : Option ℕ) (b : Reached) (x : Ste
 last_step g s v radius b x tree h =
     let rooted = rooted_from g s radius b tree in
     let rest = last_exists (reversed g) s x.head h.near b.labels rooted h.behind in
-    let whole = IsFirst-turned g s v (x.arc ∷ rest.path) (IsLast-step (reversed g) s v b.labels x rest.path rooted h rest.last) in
+    let whole = IsFirst-unreversed g s v (x.arc ∷ rest.path) (IsLast-step (reversed g) s v b.labels x rest.path rooted h rest.last) in
     let tight = h.least.tight in
     record {
       inside = inside_of g s v (x.length + h.near) radius b.labels tree.ball.labelled h.label;
       other = h.other;
-      arc = arc_turned g x.arc h.row tight.is ∙ ap (λ (r : ArcRow). Some (turned r)) (row_is h.row v x.head x.length tight.tail (sym h.head) (sym h.long));
+      arc = arc_unreversed g x.arc h.row tight.is ∙ ap (λ (r : ArcRow). Some (turned r)) (row_is h.row v x.head x.length tight.tail (sym h.head) (sym h.long));
       front = reverse rest.path;
-      behind = IsFirst-turned g s x.head rest.path rest.last;
+      behind = IsFirst-unreversed g s x.head rest.path rest.last;
       path = subst (λ (p : List ℕ). IsFirst g s p v) (reverse-cons x.arc rest.path) whole
     }
 
@@ -44,7 +44,7 @@ first_step g t v radius b x tree h =
     let rest = last_exists g t x.head h.near b.labels rooted h.behind in
     let tight = h.least.tight in
     record {
-      inside = IsInside-turned g t v radius (inside_of (reversed g) t v (x.length + h.near) radius b.labels tree.ball.labelled h.label);
+      inside = IsInside-unreversed g t v radius (inside_of (reversed g) t v (x.length + h.near) radius b.labels tree.ball.labelled h.label);
       other = h.other;
       arc = tight.is ∙ ap (λ (r : ArcRow). Some r) (row_is h.row v x.head x.length tight.tail (sym h.head) (sym h.long));
       back = rest.path;
@@ -55,7 +55,7 @@ first_step g t v radius b x tree h =
 pub to_step : (g : Graph) (t v : ℕ) (radius : Option ℕ) (b : Reached) (o : Option Step) → IsTreeTo g t radius b → IsStepDown g t b.labels v o → IsToStep g radius v t o
 to_step g t v radius b None tree (inl same) = inl same
 to_step g t v radius b None tree (inr none) =
-    inr (IsLabel-turned g t v radius None (tree.ball.labelled.far v none))
+    inr (IsLabel-unreversed g t v radius None (tree.ball.labelled.far v none))
 to_step g t v radius b (Some x) tree h = first_step g t v radius b x tree h
 
 pub last_arc : (g : Graph) (s v : ℕ) (radius : Option ℕ) (x : Step) → IsLastStep g radius s v x → IsLastArc g radius s v x.arc

@@ -13,7 +13,7 @@ use Rattle.road_model.proofs.Walks.{IsWalk-inside}
 use Rattle.tree_search.specs.Ball.{label_at, IsWithin, IsBeyond, IsLabelled, Reached, IsBall, IsLabelledTo}
 use Rattle.canonical_trees.specs.Tight.{IsRooted}
 use Rattle.canonical_trees.specs.Trees.{IsInside, IsOutside, IsLabel, IsMembers, IsTreeFrom, IsTreeTo, IsSearched}
-use Rattle.canonical_trees.proofs.Turned.{reversed-reversed, IsGraph-reversed, IsWalk-turned, IsWalk-back, walk_length-back, walk_length-reversed, IsDist-turned, IsDist-back}
+use Rattle.forward_star.proofs.Turned.{reversed-reversed, IsGraph-reversed, IsWalk-reversed, walk_length-reversed, IsDist-reversed, IsDist-unreversed}
 use Rattle.canonical_trees.proofs.StepsDown.{some_at}
 
 pub beyond_above : (radius : Option ℕ) (k m : ℕ) → IsWithin radius k → IsBeyond radius m → k < m
@@ -25,11 +25,11 @@ rooted_by_labels g t radius labels sound few labelled =
     record {
       sound = sound;
       few = few;
-      exact = (λ v k is. IsDist-turned g v t (Some k) (labelled.near v k is).0);
+      exact = (λ v k is. IsDist-unreversed g t v (Some k) (labelled.near v k is).0);
       reach = (λ u v k p none walk label.
-        let far = labelled.far u none (reverse p) (IsWalk-back g p u t walk) in
+        let far = labelled.far u none (reverse p) (IsWalk-reversed g p u t walk) in
         let low : k < walk_length (reversed g) (reverse p) = beyond_above radius k (walk_length (reversed g) (reverse p)) (labelled.near v k label).1 far in
-        omega (arith, walk_length-back g p))
+        omega (arith, walk_length-reversed g p))
     }
 
 -- the labels of a search from s are the distances to s of the reversed graph
@@ -51,22 +51,22 @@ pub label_of : (g : Graph) (s v : ℕ) (radius : Option ℕ) (labels : List (Opt
 label_of g s v radius labels None labelled is = labelled.far v is
 label_of g s v radius labels (Some d) labelled is = labelled.near v d is
 
-pub IsLabel-turned : (g : Graph) (t v : ℕ) (radius : Option ℕ) (o : Option ℕ) → IsLabel (reversed g) radius t v o → IsLabel g radius v t o
-IsLabel-turned g t v radius None h = λ p walk.
-    subst (λ (k : ℕ). IsBeyond radius k) (walk_length-back g p) (h (reverse p) (IsWalk-back g p v t walk))
-IsLabel-turned g t v radius (Some d) h = (IsDist-turned g v t (Some d) h.0, h.1)
+pub IsLabel-unreversed : (g : Graph) (t v : ℕ) (radius : Option ℕ) (o : Option ℕ) → IsLabel (reversed g) radius t v o → IsLabel g radius v t o
+IsLabel-unreversed g t v radius None h = λ p walk.
+    subst (λ (k : ℕ). IsBeyond radius k) (walk_length-reversed g p) (h (reverse p) (IsWalk-reversed g p v t walk))
+IsLabel-unreversed g t v radius (Some d) h = (IsDist-unreversed g t v (Some d) h.0, h.1)
 
 pub inside_of : (g : Graph) (s v k : ℕ) (radius : Option ℕ) (labels : List (Option ℕ)) → IsLabelled g s radius labels → label_at labels v ≡ Some k → IsInside g radius s v
 inside_of g s v k radius labels labelled is =
     record { distance = k; dist = (labelled.near v k is).0; within = (labelled.near v k is).1 }
 
-pub IsInside-turned : (g : Graph) (t v : ℕ) (radius : Option ℕ) → IsInside (reversed g) radius t v → IsInside g radius v t
-IsInside-turned g t v radius h =
-    record { distance = h.distance; dist = IsDist-turned g v t (Some h.distance) h.dist; within = h.within }
+pub IsInside-unreversed : (g : Graph) (t v : ℕ) (radius : Option ℕ) → IsInside (reversed g) radius t v → IsInside g radius v t
+IsInside-unreversed g t v radius h =
+    record { distance = h.distance; dist = IsDist-unreversed g t v (Some h.distance) h.dist; within = h.within }
 
-pub IsInside-back : (g : Graph) (t v : ℕ) (radius : Option ℕ) → IsInside g radius v t → IsInside (reversed g) radius t v
-IsInside-back g t v radius h =
-    record { distance = h.distance; dist = IsDist-back g v t (Some h.distance) h.dist; within = h.within }
+pub IsInside-reversed : (g : Graph) (t v : ℕ) (radius : Option ℕ) → IsInside g radius v t → IsInside (reversed g) radius t v
+IsInside-reversed g t v radius h =
+    record { distance = h.distance; dist = IsDist-reversed g v t (Some h.distance) h.dist; within = h.within }
 
 -- nothing is inside and outside
 pub apart : (g : Graph) (radius : Option ℕ) (u v : ℕ) → IsInside g radius u v → IsOutside g radius u v → ⊥
@@ -96,8 +96,8 @@ pub members_to : (g : Graph) (t : ℕ) (radius : Option ℕ) (b : Reached) → I
 members_to g t radius b ball =
     let from = members_from (reversed g) t radius b ball in
     record {
-      each = (λ v h. IsInside-turned g t v radius (from.each v h));
-      every = (λ v h. from.every v (IsInside-back g t v radius h));
+      each = (λ v h. IsInside-unreversed g t v radius (from.each v h));
+      every = (λ v h. from.every v (IsInside-reversed g t v radius h));
       ascending = from.ascending
     }
 
