@@ -63,3 +63,23 @@ last_arc g s v radius x h = record { inside = h.inside; other = h.other; front =
 
 pub first_arc : (g : Graph) (t v : ℕ) (radius : Option ℕ) (x : Step) → IsFirstStep g radius v t x → IsFirstArc g radius v t x.arc
 first_arc g t v radius x h = record { inside = h.inside; other = h.other; back = h.back; path = h.path }
+
+-- the same of what a scan of the reversed star answers, by equations between what the code names
+pub rooted_scan_from : (g h : Graph) (s : ℕ) (radius : Option ℕ) (b : Reached) (labels : List (Option ℕ)) → h ≡ reversed g → labels ≡ b.labels → IsTreeFrom g s radius b → IsRooted h s labels
+rooted_scan_from g h s radius b labels same kept tree =
+    subst (λ (x : Graph). IsRooted x s labels) (sym same)
+    (subst (λ (l : List (Option ℕ)). IsRooted (reversed g) s l) (sym kept) (rooted_from g s radius b tree))
+
+pub scan_from : (g h : Graph) (s v : ℕ) (radius : Option ℕ) (b : Reached) (labels : List (Option ℕ)) (o : Option Step) → h ≡ reversed g → labels ≡ b.labels → IsTreeFrom g s radius b → IsStepDown h s labels v o → IsFromStep g radius s v o
+scan_from g h s v radius b labels o same kept tree down =
+    from_step g s v radius b o tree
+    (subst (λ (x : Graph). IsStepDown x s b.labels v o) same
+      (subst (λ (l : List (Option ℕ)). IsStepDown h s l v o) kept down))
+
+pub rooted_scan_to : (g : Graph) (t : ℕ) (radius : Option ℕ) (b : Reached) (labels : List (Option ℕ)) → labels ≡ b.labels → IsTreeTo g t radius b → IsRooted g t labels
+rooted_scan_to g t radius b labels kept tree =
+    subst (λ (l : List (Option ℕ)). IsRooted g t l) (sym kept) (rooted_to g t radius b tree)
+
+pub scan_to : (g : Graph) (t v : ℕ) (radius : Option ℕ) (b : Reached) (labels : List (Option ℕ)) (o : Option Step) → labels ≡ b.labels → IsTreeTo g t radius b → IsStepDown g t labels v o → IsToStep g radius v t o
+scan_to g t v radius b labels o kept tree down =
+    to_step g t v radius b o tree (subst (λ (l : List (Option ℕ)). IsStepDown g t l v o) kept down)

@@ -138,3 +138,16 @@ found_label g s t labels (Some k) found is =
 -- what a walk leads to from a vertex is a vertex
 pub inside_vertex : (g : Graph) (radius : Option ℕ) (u v : ℕ) → IsGraph g → IsVertex g.vertices u → IsInside g radius u v → IsVertex g.vertices v
 inside_vertex g radius u v sound vertex inside = IsWalk-inside g inside.dist.0.path u v sound vertex inside.dist.0.walk
+
+-- what the code reads of a ball
+pub label_to : (g : Graph) (t v : ℕ) (radius : Option ℕ) (b : Reached) (o : Option ℕ) → IsTreeTo g t radius b → o ≡ label_at b.labels v → IsLabel g radius v t o
+label_to g t v radius b o tree is =
+    IsLabel-unreversed g t v radius o (label_of (reversed g) t v radius b.labels o tree.ball.labelled (sym is))
+
+pub read_members_from : (g : Graph) (s : ℕ) (radius : Option ℕ) (b : Reached) (members : List ℕ) → IsTreeFrom g s radius b → members ≡ b.members → IsMembers (λ v. IsInside g radius s v) members
+read_members_from g s radius b members tree is =
+    subst (λ (l : List ℕ). IsMembers (λ v. IsInside g radius s v) l) (sym is) (members_from g s radius b tree.ball)
+
+pub read_members_to : (g : Graph) (t : ℕ) (radius : Option ℕ) (b : Reached) (members : List ℕ) → IsTreeTo g t radius b → members ≡ b.members → IsMembers (λ v. IsInside g radius v t) members
+read_members_to g t radius b members tree is =
+    subst (λ (l : List ℕ). IsMembers (λ v. IsInside g radius v t) l) (sym is) (members_to g t radius b tree.ball)

@@ -5,3 +5,4 @@ pub mod StepsDown
 pub mod Existence
 pub mod Balls
 pub mod Arcs
+pub mod Bounds

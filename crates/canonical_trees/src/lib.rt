@@ -5,6 +5,7 @@
 #![tactic(auto)]
 
 mod descent;
+mod tree_pair;
 
 
 
