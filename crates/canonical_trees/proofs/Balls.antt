@@ -74,7 +74,7 @@ apart g radius u v inside outside =
     let low = beyond_above radius inside.distance (walk_length g inside.dist.0.path) inside.within (outside inside.dist.0.path inside.dist.0.walk) in
     absurd (omega (arith, inside.dist.0.long))
 
-some_label : (g : Graph) (s v : ℕ) (radius : Option ℕ) (labels : List (Option ℕ)) (o : Option ℕ) → IsLabelled g s radius labels → label_at labels v ≡ o → IsInside g radius s v → IsSome (label_at labels v)
+pub some_label : (g : Graph) (s v : ℕ) (radius : Option ℕ) (labels : List (Option ℕ)) (o : Option ℕ) → IsLabelled g s radius labels → label_at labels v ≡ o → IsInside g radius s v → IsSome (label_at labels v)
 some_label g s v radius labels None labelled is inside = absurd (apart g radius s v inside (labelled.far v is))
 some_label g s v radius labels (Some k) labelled is inside = some_at (label_at labels v) k is
 

@@ -6,3 +6,4 @@ pub mod Existence
 pub mod Balls
 pub mod Arcs
 pub mod Bounds
+pub mod WholePaths

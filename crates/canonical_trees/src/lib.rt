@@ -5,7 +5,8 @@
 #![tactic(auto)]
 
 mod descent;
+mod path;
 mod tree_pair;
 
-
-
+pub use path::{optimum, via_path};
+pub use tree_pair::{FromTree, ToTree, TreePair, tree_from, tree_to, trees};

@@ -1,7 +1,9 @@
 //! The two trees of a query.
 
-ghost use Rattle.std.specs.Prelude.{◌≡◌, IfOk};
+ghost use Rattle.std.specs.Prelude.{◌≡◌, IfOk, OnOk};
 ghost use Rattle.road_model.specs.Graph.{IsVertex};
+ghost use Rattle.road_model.specs.Canonical.{IsFirst};
+ghost use Rattle.canonical_trees.specs.Tight.{Adds};
 ghost use Rattle.canonical_trees.specs.Trees.{IsInside, IsLabel, IsMembers, IsSearched};
 ghost use Rattle.canonical_trees.specs.Trees.{IsFromStep, IsToStep, IsFromArc, IsToArc};
 
@@ -10,9 +12,10 @@ use road_model::{ArcNo, NoMemory, Step, Vertex, VertexList};
 use std::alloc::Global;
 use std::marker::Model;
 use tree_search::search::ball;
-use tree_search::{Ball, Labels};
+use tree_search::Ball;
 
-use crate::descent::step_down;
+use crate::descent::{follow, step_down};
+use crate::path::path_from;
 
 /// No distance of a star is as long as this.
 const ABOVE_ALL: u64 = 144115188075855872;
@@ -145,6 +148,14 @@ impl FromTree<'_> {
     {
         step_down(&self.star.reversed(), self.ball.labels(), self.source, v)
     }
+
+    fn path(&self, alloc: Global, v: Vertex) -> Result<Vec<ArcNo>, NoMemory>
+        requires { IsInside self.now.graph self.now.radius self.now.root v }
+        ensures path { IfOk result (λ arcs. IsFirst self.now.graph self.now.root arcs.items v) }
+        ensures vertex { IsVertex self.now.graph.vertices v }
+    {
+        path_from(alloc, self.star, self.ball.labels(), self.source, v)
+    }
 }
 
 impl ToTree<'_> {
@@ -164,6 +175,13 @@ impl ToTree<'_> {
         ensures { IsToStep self.now.graph self.now.radius v self.now.root result }
     {
         step_down(self.star, self.ball.labels(), self.target, v)
+    }
+
+    fn add_path(&self, v: Vertex, arcs: &mut Vec<ArcNo>) -> Result<(), NoMemory>
+        requires { IsInside self.now.graph self.now.radius v self.now.root }
+        ensures { OnOk result (Adds self.now.graph self.now.root v arcs.old.items arcs.new.items) }
+    {
+        follow(self.star, self.ball.labels(), self.target, v, arcs)
     }
 }
 
@@ -254,5 +272,43 @@ impl<'a> TreePair<'a> {
     {
         let step = self.to_step(v)?;
         Some(step.arc)
+    }
+
+    /// The star that both trees are of.
+    pub fn star(&self) -> &'a Star
+        ensures { result.now ≡ self.now.graph }
+    {
+        self.from.star
+    }
+
+    /// The vertex that the first tree is from.
+    pub fn source(&self) -> Vertex
+        ensures { result ≡ self.now.source }
+    {
+        self.from.source
+    }
+
+    /// The vertex that the second tree is to.
+    pub fn target(&self) -> Vertex
+        ensures { result ≡ self.now.target }
+    {
+        self.to.target
+    }
+
+    /// The canonical path from the source to a vertex inside its ball.
+    pub(crate) fn path_from_source(&self, alloc: Global, v: Vertex) -> Result<Vec<ArcNo>, NoMemory>
+        requires { IsInside self.now.graph self.now.radius self.now.source v }
+        ensures path { IfOk result (λ arcs. IsFirst self.now.graph self.now.source arcs.items v) }
+        ensures vertex { IsVertex self.now.graph.vertices v }
+    {
+        self.from.path(alloc, v)
+    }
+
+    /// Adds the canonical path from a vertex inside the ball of the target.
+    pub(crate) fn add_path_to_target(&self, v: Vertex, arcs: &mut Vec<ArcNo>) -> Result<(), NoMemory>
+        requires { IsInside self.now.graph self.now.radius v self.now.target }
+        ensures { OnOk result (Adds self.now.graph self.now.target v arcs.old.items arcs.new.items) }
+    {
+        self.to.add_path(v, arcs)
     }
 }
