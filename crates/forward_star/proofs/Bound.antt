@@ -1,16 +1,16 @@
 -- Within the limits, where a walk leads, one of less than 2^57 does: loops are taken out of it, and then
 -- its arcs begin at different vertices.
-use Rattle.std.proofs.Common.{◌≡◌, ◌+◌, ◌*◌, ◌^◌, ◌<◌, ◌≤◌, ℕ, zero, suc, Bool, true, false, eqb, ◌||◌, List, [], ◌∷◌, length, Option, Some, None, All, refl, sym, ap, ◌∙◌, subst, arith, ⊎_elim}
+use Rattle.std.proofs.Common.{◌≡◌, ◌+◌, ◌*◌, ◌^◌, ◌<◌, ◌≤◌, ℕ, zero, suc, true, false, eqb, List, [], ◌∷◌, length, Option, Some, None, refl, sym, ap, ◌∙◌, subst, arith, ⊎_elim}
 use Rattle.std.specs.List.{list_any, IsDistinct, AllByRecursion}
-use Rattle.std.proofs.lemmas.Bool.{cases_Bool, or_cases, or_parts, eqb-true, ne_eqb}
+use Rattle.std.proofs.lemmas.Bool.{cases_Bool, or_cases, or_parts, eqb-true}
 use Rattle.std.proofs.lemmas.Map.Keys.{IsDistinct-cons, IsDistinct-tail, IsDistinct-from_apart}
 use Rattle.std.proofs.lemmas.Map.Steps.{length-le_from_distinct_below}
 use Rattle.std.proofs.Math.Nat.{mul-le-mul_right}
 use Rattle.std.proofs.lemmas.Option.{slice_get_within, get_or_from_slice_get}
 use Rattle.road_model.specs.declared.rows.ArcRow.{ArcRow}
-use Rattle.road_model.specs.Graph.{Graph, arc_at, row_length, length_at, IsVertex, IsArc, IsGraph, LengthsBelow}
+use Rattle.road_model.specs.Graph.{Graph, arc_at, row_length, length_at, IsVertex, IsGraph, LengthsBelow}
 use Rattle.road_model.specs.Walk.{IsWalk, walk_length}
-use Rattle.road_model.specs.Dist.{NoneShorter, DistsBelow}
+use Rattle.road_model.specs.Dist.{DistsBelow}
 use Rattle.road_model.specs.File.{IsWithinLimits}
 use Rattle.road_model.proofs.Walks.{IsArc-at}
 

@@ -1,12 +1,12 @@
 -- A graph with its arcs turned round: its limits, its walks and its distances.
-use Rattle.std.proofs.Common.{◌≡◌, ◌+◌, ◌<◌, ◌≤◌, ℕ, zero, suc, List, [], ◌∷◌, ◌++◌, length, map, reverse, Option, Some, None, option_map, slice_get, All, refl, sym, ap, ◌∙◌, subst, arith}
+use Rattle.std.proofs.Common.{◌≡◌, ◌<◌, ◌≤◌, ℕ, zero, suc, List, [], ◌∷◌, ◌++◌, map, reverse, Option, Some, None, option_map, refl, sym, ap, ◌∙◌, subst, arith}
 use Rattle.std.proofs.lemmas.List.{length-map, reverse-reverse, reverse-append}
 use Rattle.std.proofs.lemmas.List.Elements.{All-map, All-weaker}
 use Rattle.std.proofs.lemmas.Option.{slice_get-map}
 use Rattle.road_model.specs.declared.rows.ArcRow.{ArcRow}
 use Rattle.road_model.specs.Graph.{Graph, arc_at, row_length, length_at, IsArc, IsGraph, LengthsBelow, turned, reversed}
 use Rattle.road_model.specs.Walk.{IsWalk, walk_length}
-use Rattle.road_model.specs.Dist.{IsDist, NoWalk, NoneShorter, HasWalk}
+use Rattle.road_model.specs.Dist.{IsDist, NoneShorter}
 use Rattle.road_model.specs.File.{IsWithinLimits}
 use Rattle.road_model.proofs.Walks.{IsWalk-append, walk_length-append}
 

@@ -1,5 +1,3 @@
-ghost use Rattle.std.specs.Prelude.{◌≤◌, ◌+◌, ◌≡◌, IfOk};
-
 use super::*;
 use road_model::{ArcNo, ArcRow, ArcRows, GraphFile, Network, Step, Vertex};
 use std::alloc::Global;
@@ -8,11 +6,11 @@ use std::test::Fail;
 // A graph of these arcs (tail, head, length); a row outside the limits fails the test.
 fn graph_of(alloc: Global, vertices: u32, arcs: &[(u32, u32, u64)]) -> Result<GraphFile, Fail> {
     let mut rows = ArcRows::new(alloc);
-    if vertices > 33554432 {
-        return Err("too many vertices".into());
+    if vertices > 33554432 || arcs.len() > 67108864 {
+        return Err("too large a graph".into());
     }
-    for _index in 0..arcs.len().min(67108864) {
-        let (tail, head, length) = arcs[_index];
+    for arc in arcs {
+        let (tail, head, length) = *arc;
         let ends = tail >= 1 && tail <= vertices && head >= 1 && head <= vertices;
         if !ends || length < 1 || length > 4294967295 {
             return Err("an arc outside the limits".into());

@@ -1,8 +1,7 @@
 -- Dictionary order is an order, and so the canonical walk is one.
-use Rattle.std.proofs.Common.{◌≡◌, ℕ, ◌+◌, ◌<◌, ◌≤◌, ◌⊎◌, List, [], ◌∷◌, ◌++◌, reverse, Option, Some, None, refl, sym, ap, ◌∙◌, subst, arith, inl, inr, ⊎_elim}
+use Rattle.std.proofs.Common.{◌≡◌, ℕ, List, [], ◌∷◌, reverse, refl, sym, ap, ◌∙◌, arith, inl, inr}
 use Rattle.std.proofs.lemmas.List.{reverse-reverse}
 use Rattle.road_model.specs.Graph.{Graph}
-use Rattle.road_model.specs.Dist.{IsShortest}
 use Rattle.road_model.specs.Canonical.{LexLe, IsFirst, IsLast}
 
 pub LexLe-refl : (p : List ℕ) → LexLe p p

@@ -1,9 +1,9 @@
 -- Distances and shortest walks.
-use Rattle.std.proofs.Common.{◌≡◌, ℕ, ◌+◌, ◌<◌, ◌≤◌, List, [], ◌∷◌, ◌++◌, Option, Some, None, refl, sym, ap, ◌∙◌, subst, arith}
+use Rattle.std.proofs.Common.{◌≡◌, ℕ, ◌+◌, ◌≤◌, List, [], ◌++◌, Option, Some, None, refl, ap, arith}
 use Rattle.road_model.specs.Graph.{Graph}
 use Rattle.road_model.specs.Walk.{IsWalk, walk_length}
-use Rattle.road_model.specs.Dist.{NoWalk, NoneShorter, HasWalk, IsDist, IsShortest}
-use Rattle.road_model.proofs.Walks.{IsWalk-append, Cut, cut, walk_length-append, IsWalk-end}
+use Rattle.road_model.specs.Dist.{IsDist, IsShortest}
+use Rattle.road_model.proofs.Walks.{IsWalk-append, walk_length-append}
 
 pub IsDist-unique : (g : Graph) (u v : ℕ) (a b : Option ℕ) → IsDist g u v a → IsDist g u v b → a ≡ b
 IsDist-unique g u v None None h k = refl
@@ -42,8 +42,8 @@ front_of_shortest g p q u v w h front back =
     record {
       walk = front;
       least = (λ x walk.
-        let other : walk_length g (p ++ q) ≤ walk_length g (x ++ q) = h.least (x ++ q) (IsWalk-append g x q u v w walk back) in
-        omega (arith, walk_length-append g p q, walk_length-append g x q))
+          let other : walk_length g (p ++ q) ≤ walk_length g (x ++ q) = h.least (x ++ q) (IsWalk-append g x q u v w walk back) in
+          omega (arith, walk_length-append g p q, walk_length-append g x q));
     }
 
 pub back_of_shortest : (g : Graph) (p q : List ℕ) (u v w : ℕ) → IsShortest g u (p ++ q) w → IsWalk g u p v → IsWalk g v q w → IsShortest g v q w
@@ -51,6 +51,6 @@ back_of_shortest g p q u v w h front back =
     record {
       walk = back;
       least = (λ x walk.
-        let other : walk_length g (p ++ q) ≤ walk_length g (p ++ x) = h.least (p ++ x) (IsWalk-append g p x u v w front walk) in
-        omega (arith, walk_length-append g p q, walk_length-append g p x))
+          let other : walk_length g (p ++ q) ≤ walk_length g (p ++ x) = h.least (p ++ x) (IsWalk-append g p x u v w front walk) in
+          omega (arith, walk_length-append g p q, walk_length-append g p x));
     }

@@ -1,3 +1,5 @@
 pub mod Walks
 pub mod Dists
 pub mod CanonicalWalks
+pub mod Trails
+pub mod Parts

@@ -6,8 +6,7 @@
 --   IsListing g q o rs   the routes of every alternative and of nothing else, ascending
 --   IsAnswer g q plan    no path exactly where no walk leads there; else the optimum and such a list
 --   IsPage total size offset span   the items of one page: item 0 is the optimum, item k the k-th alternative
-use Rattle.std.specs.Prelude.{◌≡◌, ◌<◌, ◌⊎◌, ◌+◌, ◌-◌, ◌↔◌, ℕ, min, List, [], ◌∷◌, length, Some, All, Contains, IsTrue}
-use Rattle.road_model.specs.declared.answer.Optimum.{Optimum}
+use Rattle.std.specs.Prelude.{◌≡◌, ◌<◌, ◌⊎◌, ◌+◌, ◌-◌, ◌↔◌, ℕ, min, List, [], ◌∷◌, Some, All, Contains, IsTrue}
 use Rattle.road_model.specs.declared.answer.Route.{Route}
 use Rattle.road_model.specs.declared.answer.Query.{Query}
 use Rattle.road_model.specs.declared.answer.PageSpan.{PageSpan}

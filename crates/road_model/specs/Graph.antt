@@ -9,7 +9,7 @@
 --   LengthsBelow g m  each length is below m
 --   step_at g v i  the i-th arc out of v, counted from 0, by rising arc number
 --   reversed g     the graph with each arc turned round, under its old number
-use Rattle.std.specs.Prelude.{◌≡◌, ◌<◌, ◌≤◌, ◌+◌, ℕ, zero, suc, List, [], ◌∷◌, Option, Some, None, slice_get, map, All, if◌then◌else◌, ◌==◌}
+use Rattle.std.specs.Prelude.{◌<◌, ◌≤◌, ◌+◌, ℕ, zero, suc, List, [], ◌∷◌, Option, Some, None, slice_get, map, All, if◌then◌else◌, ◌==◌}
 use Rattle.road_model.specs.declared.rows.ArcRow.{ArcRow}
 use Rattle.road_model.specs.declared.network.Step.{Step}
 

@@ -7,6 +7,7 @@ pub mod Fraction
 pub mod Changes
 pub mod Places
 pub mod Tests
+pub mod ViaWalk
 pub mod Alternatives
 pub mod Answers
 pub mod Verdicts

@@ -1,6 +1,7 @@
 -- Walks, as lists of arc numbers.
 --   IsWalk g u p v   p leads from u to v: each arc begins where the one before it ends; no arc leads from a
 --                    vertex to itself
+--   IsWalkFrom g u p  it leads from u to some vertex
 --   walk_length g p  the sum of its lengths
 use Rattle.std.specs.Prelude.{◌≡◌, ◌+◌, ℕ, List, [], ◌∷◌, Some}
 use Rattle.road_model.specs.declared.rows.ArcRow.{ArcRow}
@@ -13,3 +14,8 @@ IsWalk g u (a ∷ p) v = (r : ArcRow) × (arc_at g a ≡ Some r) × (r.tail ≡ 
 abbrev pub walk_length : Graph → List ℕ → ℕ
 walk_length g [] = 0
 walk_length g (a ∷ p) = length_at g a + walk_length g p
+
+-- p is a walk from u to some vertex
+pub record IsWalkFrom (g : Graph) (u : ℕ) (p : List ℕ) : Type 0 where
+  pub end : ℕ
+  pub walk : IsWalk g u p end

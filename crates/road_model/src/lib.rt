@@ -8,7 +8,6 @@ mod answer;
 mod change;
 mod graph_file;
 mod items;
-pub mod laws;
 mod network;
 mod number;
 mod oracle;

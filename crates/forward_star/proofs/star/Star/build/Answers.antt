@@ -1,6 +1,5 @@
 use Rattle.std.proofs.Common.{◌≡◌, ℕ, true, false, List, map, ap, sym, ◌∙◌, subst}
 use Rattle.road_model.specs.declared.rows.ArcRow.{ArcRow}
-use Rattle.road_model.specs.Graph.{Graph, reversed}
 use Rattle.road_model.specs.File.{IsWithinLimits}
 use Rattle.forward_star.specs.Layout.{seen}
 use Rattle.forward_star.proofs.Runs.{map_seen}

@@ -1,4 +1,4 @@
-use Rattle.std.proofs.Common.{◌≡◌, true, map, ◌∙◌, ap}
+use Rattle.std.proofs.Common.{true, map, ◌∙◌, ap}
 use Rattle.road_model.specs.Graph.{Graph, reversed, step_at}
 use Rattle.forward_star.specs.Layout.{seen}
 use Rattle.forward_star.proofs.Runs.{run_at-laid}

@@ -1,0 +1,95 @@
+#!/usr/bin/env python3
+"""Writes a road-like network as a .gr file: python3 bench/network.py SEED SIDE > FILE
+
+SIDE by SIDE junctions stand on a jittered grid. Streets join neighbours, one in eight only one way, and
+one in twelve is left out. Every eighth row and column is an arterial road, every twenty-fourth a motorway
+with ramps; faster roads have shorter times. Some streets have a parallel service lane, some junctions a
+dead-end stub, and a few a loop. Lengths are travel times in tenths of a second. The same seed and side
+give the same bytes.
+"""
+import sys
+
+MASK = (1 << 64) - 1
+
+
+class Words:
+    """SplitMix64."""
+
+    def __init__(self, seed):
+        self.state = seed & MASK
+
+    def next(self):
+        self.state = (self.state + 0x9E3779B97F4A7C15) & MASK
+        z = self.state
+        z = ((z ^ (z >> 30)) * 0xBF58476D1CE4E5B9) & MASK
+        z = ((z ^ (z >> 27)) * 0x94D049BB133111EB) & MASK
+        return z ^ (z >> 31)
+
+    def below(self, n):
+        return self.next() % n
+
+
+def speed(line):
+    if line % 24 == 12:
+        return 31
+    if line % 8 == 4:
+        return 17
+    return 9
+
+
+def network(seed, side):
+    words = Words(seed)
+    place = [(100 * c + words.below(41), 100 * r + words.below(41)) for r in range(side) for c in range(side)]
+    arcs = []
+
+    def time(u, v, metres_a_second):
+        (x, y), (a, b) = place[u], place[v]
+        return max(1, 10 * (abs(x - a) + abs(y - b)) // metres_a_second)
+
+    def street(u, v, fast):
+        if fast == 9 and words.below(12) == 0:
+            return
+        length = time(u, v, fast)
+        one_way = fast == 9 and words.below(8) == 0
+        if not one_way or words.below(2) == 0:
+            arcs.append((u, v, length))
+        else:
+            arcs.append((v, u, length))
+        if not one_way:
+            arcs.append((v, u, length + words.below(3)))
+        if words.below(40) == 0:
+            arcs.append((u, v, length + words.below(5)))
+
+    for r in range(side):
+        for c in range(side):
+            u = r * side + c
+            if c + 1 < side:
+                street(u, u + 1, speed(r))
+            if r + 1 < side:
+                street(u, u + side, speed(c))
+            if words.below(200) == 0:
+                arcs.append((u, u, 1 + words.below(50)))
+    vertices = side * side
+    for _ in range(vertices // 20):
+        u = words.below(side * side)
+        length = 20 + words.below(200)
+        arcs.append((u, vertices, length))
+        arcs.append((vertices, u, length))
+        vertices += 1
+    return vertices, arcs
+
+
+def main():
+    seed, side = int(sys.argv[1]), int(sys.argv[2])
+    vertices, arcs = network(seed, side)
+    out = ["c a road-like network made by bench/network.py %d %d\n" % (seed, side), "c\r\n"]
+    out.append("p sp %d %d\n" % (vertices, len(arcs)))
+    for number, (u, v, length) in enumerate(arcs, 1):
+        if number % 1000 == 0:
+            out.append("c arc %d follows\r\n" % number)
+        end = "\r\n" if number % 97 == 0 else "\n"
+        out.append("a %d %d %d%s" % (u + 1, v + 1, length, end))
+    sys.stdout.write("".join(out))
+
+
+main()

@@ -1,0 +1,10 @@
+pub mod Told
+pub mod Count
+pub mod Source
+pub mod Sink
+pub mod Shelf
+pub mod Calls
+pub mod Memory
+pub mod MemForms
+pub mod SureForms
+pub mod Adapters

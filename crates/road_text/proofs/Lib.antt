@@ -1,0 +1,6 @@
+pub mod FieldLemmas
+pub mod NumberLemmas
+pub mod LineLemmas
+pub mod HeldLemmas
+pub mod SkipLemmas
+pub mod BehindLemmas

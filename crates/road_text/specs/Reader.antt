@@ -1,0 +1,84 @@
+-- What a reader of lines hands out, line by line.
+--   held r        the bytes that it has read and not handed out
+--   line_of r     the line that it shows
+--   budget r      how many bytes its lines may still take
+--   IsFresh       a new reader: it holds nothing, and its lines may take all the bytes that it allows
+--   IsLine        the text begins with this raw line and its line feed, and this is behind it
+--   IsLastLine    the text is this raw line, which has no line feed
+--   Steps         what one step did to a text, which is what the reader held and what the source had left
+-- Of a source that tells nothing only its count of faults is known.
+use Rattle.std.specs.Prelude.{◌≡◌, ℕ, ◌+◌, ◌-◌, ◌<◌, ◌≤◌, Bool, true, false, List, [], ◌∷◌, ◌++◌, Option, length, slice_range}
+use Rattle.road_text.specs.declared.line_reader.LineReader.{LineReader}
+use Rattle.road_text.specs.declared.line_reader.Advance.{Advance}
+use Rattle.road_text.specs.declared.line_reader.Advance.TheVariants.{Whole, Last, Long, End, Spent, Failed}
+use Rattle.road_text.specs.Lines.{HasNoFeed, without_return}
+use Rattle.road_text.specs.Fields.{first_byte}
+
+abbrev pub held : LineReader → List ℕ
+held r = slice_range r.buffer.items r.start r.end
+
+abbrev pub line_of : LineReader → List ℕ
+line_of r = slice_range r.buffer.items r.line_start r.line_end
+
+abbrev pub budget : LineReader → ℕ
+budget r = (r.most - r.taken) + (r.end - r.start)
+
+pub record IsFresh (r : LineReader) (longest most : ℕ) : Type 0 where
+  pub empty : held r ≡ []
+  pub whole : budget r ≡ most
+  pub longest_is : r.longest ≡ longest
+
+pub record IsLine (text raw behind : List ℕ) : Type 0 where
+  pub no_feed : HasNoFeed raw
+  pub is : text ≡ raw ++ 10 ∷ behind
+
+pub record IsLastLine (text raw behind : List ℕ) : Type 0 where
+  pub no_feed : HasNoFeed raw
+  pub some : 0 < length raw
+  pub is : text ≡ raw
+  pub nothing : behind ≡ []
+
+-- the reader shows the raw line without its end, which is within the limit
+pub record Shows (r : LineReader) (raw : List ℕ) : Type 0 where
+  pub is : line_of r ≡ without_return raw
+  pub short : length (line_of r) ≤ r.longest
+
+-- the raw line is too long to be shown; first is its first byte that isn't blank
+pub record IsTooLong (longest : ℕ) (raw : List ℕ) (first : Option ℕ) : Type 0 where
+  pub long : longest < length (without_return raw)
+  pub first_is : first ≡ first_byte raw
+
+-- a text goes on behind these bytes
+pub record HasTaken (old new : LineReader) (bytes : ℕ) : Type 0 where
+  pub count : budget new + bytes ≡ budget old
+  pub longest : new.longest ≡ old.longest
+
+-- the bytes of the text that come before this rest have no line feed
+pub record IsCutOff (text raw rest : List ℕ) : Type 0 where
+  pub no_feed : HasNoFeed raw
+  pub is : text ≡ raw ++ rest
+
+-- one byte more than the lines may take, and no line feed before it
+pub record IsSpent (text raw rest : List ℕ) (byte most : ℕ) : Type 0 where
+  pub no_feed : HasNoFeed raw
+  pub is : text ≡ raw ++ byte ∷ rest
+  pub count : length raw ≡ most
+
+abbrev pub Steps : LineReader → LineReader → List ℕ → List ℕ → Advance → Type 0
+Steps old new text rest Whole = (raw : List ℕ) × IsLine text raw (held new ++ rest) × HasTaken old new (length raw + 1) × Shows new raw
+Steps old new text rest Last = (raw : List ℕ) × IsLastLine text raw (held new ++ rest) × HasTaken old new (length raw) × Shows new raw
+Steps old new text rest (Long true first) = (raw : List ℕ) × IsLine text raw (held new ++ rest) × HasTaken old new (length raw + 1) × IsTooLong old.longest raw first
+Steps old new text rest (Long false first) = (raw : List ℕ) × IsLastLine text raw (held new ++ rest) × HasTaken old new (length raw) × IsTooLong old.longest raw first
+Steps old new text rest End = (text ≡ []) × (rest ≡ [])
+Steps old new text rest Spent = (raw : List ℕ) × (byte : ℕ) × IsSpent text raw rest byte (budget old)
+Steps old new text rest Failed = (raw : List ℕ) × IsCutOff text raw rest
+
+-- a line was handed out, and more may follow
+abbrev pub GoesOn : Advance → Type 0
+GoesOn Whole = Unit {0}
+GoesOn Last = ⊥
+GoesOn (Long true first) = Unit {0}
+GoesOn (Long false first) = ⊥
+GoesOn End = ⊥
+GoesOn Spent = ⊥
+GoesOn Failed = ⊥
