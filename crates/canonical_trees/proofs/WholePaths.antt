@@ -1,5 +1,5 @@
 -- What the walks that are found from the trees are.
-use Rattle.std.proofs.Common.{◌≡◌, ℕ, ◌<◌, ◌≤◌, ◌^◌, ◌+◌, List, [], ◌++◌, reverse, Option, Some, None, IsSome, sym, ap, ◌∙◌, subst, arith, refl}
+use Rattle.std.proofs.Common.{◌≡◌, ℕ, ◌<◌, ◌≤◌, ◌^◌, ◌+◌, List, [], ◌++◌, reverse, Option, Some, None, IsSome, IfSome, sym, ap, ◌∙◌, subst, arith, refl}
 use Rattle.road_model.specs.Graph.{Graph, IsVertex, reversed}
 use Rattle.road_model.specs.File.{IsWithinLimits}
 use Rattle.road_model.specs.Walk.{walk_length}
@@ -9,7 +9,7 @@ use Rattle.road_model.proofs.Dists.{IsDist-same, dist_of_shortest}
 use Rattle.forward_star.proofs.Bound.{dists_below}
 use Rattle.tree_search.specs.Ball.{label_at, Reached, IsLabelledTo, IsFoundTo}
 use Rattle.canonical_trees.specs.Tight.{IsRooted, Adds}
-use Rattle.canonical_trees.specs.Trees.{IsInside, IsTreeFrom, IsTreeTo}
+use Rattle.canonical_trees.specs.Trees.{IsInside, IsLabel, IsTreeFrom, IsTreeTo}
 use Rattle.canonical_trees.proofs.Turned.{IsFirst-unreversed}
 use Rattle.canonical_trees.proofs.Balls.{rooted_from_source, some_label, IsInside-reversed, inside_vertex, found_label, dist_below}
 
@@ -56,3 +56,8 @@ length_found g s t length found labels limits h is label =
       every = (λ p first. sym same ∙ IsDist-same g s t hit.distance (walk_length g p) hit.dist (dist_of_shortest g s t p first.shortest));
       short = subst (λ (n : ℕ). n < 2 ^ 57) same (dist_below g s t hit.distance (2 ^ 57) (dists_below g limits) hit.dist)
     }
+
+-- a label is a distance, and so it isn't long
+pub label_short : (g : Graph) (radius : Option ℕ) (u v : ℕ) (o : Option ℕ) → IsWithinLimits g → IsLabel g radius u v o → IfSome o (λ d. d < 2 ^ 57)
+label_short g radius u v None limits h = tt
+label_short g radius u v (Some d) limits h = dist_below g u v d (2 ^ 57) (dists_below g limits) h.0

@@ -1,6 +1,6 @@
 //! The two trees of a query.
 
-ghost use Rattle.std.specs.Prelude.{◌≡◌, IfOk, OnOk};
+ghost use Rattle.std.specs.Prelude.{◌≡◌, ◌<◌, ◌^◌, IfOk, IfSome, OnOk};
 ghost use Rattle.road_model.specs.Graph.{IsVertex};
 ghost use Rattle.road_model.specs.Canonical.{IsFirst};
 ghost use Rattle.canonical_trees.specs.Tight.{Adds};
@@ -131,8 +131,16 @@ pub fn trees<'a>(
 }
 
 impl FromTree<'_> {
+    fn source(&self) -> Vertex
+        ensures source { result ≡ self.now.root }
+        ensures inside { IsVertex self.now.graph.vertices result }
+    {
+        self.source
+    }
+
     fn label(&self, v: Vertex) -> Option<u64>
-        ensures { IsLabel self.now.graph self.now.radius self.now.root v result }
+        ensures label { IsLabel self.now.graph self.now.radius self.now.root v result }
+        ensures short { IfSome result (λ d. d < 2 ^ 57) }
     {
         self.ball.label(v)
     }
@@ -159,8 +167,16 @@ impl FromTree<'_> {
 }
 
 impl ToTree<'_> {
+    fn target(&self) -> Vertex
+        ensures target { result ≡ self.now.root }
+        ensures inside { IsVertex self.now.graph.vertices result }
+    {
+        self.target
+    }
+
     fn label(&self, v: Vertex) -> Option<u64>
-        ensures { IsLabel self.now.graph self.now.radius v self.now.root result }
+        ensures label { IsLabel self.now.graph self.now.radius v self.now.root result }
+        ensures short { IfSome result (λ d. d < 2 ^ 57) }
     {
         self.ball.label(v)
     }
@@ -230,14 +246,16 @@ impl<'a> TreePair<'a> {
 
     /// The distance from the source; none outside its ball. Constant time.
     pub fn from_label(&self, v: Vertex) -> Option<u64>
-        ensures { IsLabel self.now.graph self.now.radius self.now.source v result }
+        ensures label { IsLabel self.now.graph self.now.radius self.now.source v result }
+        ensures short { IfSome result (λ d. d < 2 ^ 57) }
     {
         self.from.label(v)
     }
 
     /// The distance to the target; none outside its ball. Constant time.
     pub fn to_label(&self, v: Vertex) -> Option<u64>
-        ensures { IsLabel self.now.graph self.now.radius v self.now.target result }
+        ensures label { IsLabel self.now.graph self.now.radius v self.now.target result }
+        ensures short { IfSome result (λ d. d < 2 ^ 57) }
     {
         self.to.label(v)
     }
@@ -283,16 +301,18 @@ impl<'a> TreePair<'a> {
 
     /// The vertex that the first tree is from.
     pub fn source(&self) -> Vertex
-        ensures { result ≡ self.now.source }
+        ensures source { result ≡ self.now.source }
+        ensures inside { IsVertex self.now.graph.vertices result }
     {
-        self.from.source
+        self.from.source()
     }
 
     /// The vertex that the second tree is to.
     pub fn target(&self) -> Vertex
-        ensures { result ≡ self.now.target }
+        ensures target { result ≡ self.now.target }
+        ensures inside { IsVertex self.now.graph.vertices result }
     {
-        self.to.target
+        self.to.target()
     }
 
     /// The canonical path from the source to a vertex inside its ball.
