@@ -30,7 +30,7 @@ last_step g s v radius b x tree h =
       arc = arc_unreversed g x.arc h.row tight.is ∙ ap (λ (r : ArcRow). Some (turned r)) (row_is h.row v x.head x.length tight.tail (sym h.head) (sym h.long));
       front = reverse rest.path;
       behind = IsFirst-unreversed g s x.head rest.path rest.last;
-      path = subst (λ (p : List ℕ). IsFirst g s p v) (reverse-cons x.arc rest.path) whole
+      path = subst (λ (p : List ℕ). IsFirst g s p v) (reverse-cons x.arc rest.path) whole;
     }
 
 pub from_step : (g : Graph) (s v : ℕ) (radius : Option ℕ) (b : Reached) (o : Option Step) → IsTreeFrom g s radius b → IsStepDown (reversed g) s b.labels v o → IsFromStep g radius s v o
@@ -49,7 +49,7 @@ first_step g t v radius b x tree h =
       arc = tight.is ∙ ap (λ (r : ArcRow). Some r) (row_is h.row v x.head x.length tight.tail (sym h.head) (sym h.long));
       back = rest.path;
       behind = rest.last;
-      path = IsLast-step g t v b.labels x rest.path rooted h rest.last
+      path = IsLast-step g t v b.labels x rest.path rooted h rest.last;
     }
 
 pub to_step : (g : Graph) (t v : ℕ) (radius : Option ℕ) (b : Reached) (o : Option Step) → IsTreeTo g t radius b → IsStepDown g t b.labels v o → IsToStep g radius v t o
@@ -74,7 +74,7 @@ pub scan_from : (g h : Graph) (s v : ℕ) (radius : Option ℕ) (b : Reached) (l
 scan_from g h s v radius b labels o same kept tree down =
     from_step g s v radius b o tree
     (subst (λ (x : Graph). IsStepDown x s b.labels v o) same
-      (subst (λ (l : List (Option ℕ)). IsStepDown h s l v o) kept down))
+    (subst (λ (l : List (Option ℕ)). IsStepDown h s l v o) kept down))
 
 pub rooted_scan_to : (g : Graph) (t : ℕ) (radius : Option ℕ) (b : Reached) (labels : List (Option ℕ)) → labels ≡ b.labels → IsTreeTo g t radius b → IsRooted g t labels
 rooted_scan_to g t radius b labels kept tree =

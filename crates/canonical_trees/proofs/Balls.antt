@@ -27,9 +27,9 @@ rooted_by_labels g t radius labels sound few labelled =
       few = few;
       exact = (λ v k is. IsDist-unreversed g t v (Some k) (labelled.near v k is).0);
       reach = (λ u v k p none walk label.
-        let far = labelled.far u none (reverse p) (IsWalk-reversed g p u t walk) in
-        let low : k < walk_length (reversed g) (reverse p) = beyond_above radius k (walk_length (reversed g) (reverse p)) (labelled.near v k label).1 far in
-        omega (arith, walk_length-reversed g p))
+          let far = labelled.far u none (reverse p) (IsWalk-reversed g p u t walk) in
+          let low : k < walk_length (reversed g) (reverse p) = beyond_above radius k (walk_length (reversed g) (reverse p)) (labelled.near v k label).1 far in
+          omega (arith, walk_length-reversed g p));
     }
 
 -- the labels of a search from s are the distances to s of the reversed graph
@@ -89,7 +89,7 @@ members_from g s radius b ball =
     record {
       each = (λ v h. inside_some g s v radius b.labels (label_at b.labels v) ball.labelled refl ((ball.members v).0 h));
       every = (λ v h. (ball.members v).1 (some_label g s v radius b.labels (label_at b.labels v) ball.labelled refl h));
-      ascending = ball.ascending
+      ascending = ball.ascending;
     }
 
 pub members_to : (g : Graph) (t : ℕ) (radius : Option ℕ) (b : Reached) → IsBall (reversed g) t radius b → IsMembers (λ v. IsInside g radius v t) b.members
@@ -98,7 +98,7 @@ members_to g t radius b ball =
     record {
       each = (λ v h. IsInside-unreversed g t v radius (from.each v h));
       every = (λ v h. from.every v (IsInside-reversed g t v radius h));
-      ascending = from.ascending
+      ascending = from.ascending;
     }
 
 -- no distance is as long as a bound on all of them
@@ -116,13 +116,13 @@ searched g s (Some r) None b bound is ball =
     record {
       labelled = record {
         near = (λ v k label.
-          let dist = (ball.labelled.near v k label).0 in
-          let low : k < 2 ^ 57 = dist_below g s v k (2 ^ 57) bound dist in
-          (dist, omega arith));
-        far = (λ v none p walk. absurd (ball.labelled.far v none p walk))
+            let dist = (ball.labelled.near v k label).0 in
+            let low : k < 2 ^ 57 = dist_below g s v k (2 ^ 57) bound dist in
+            (dist, omega arith));
+        far = (λ v none p walk. absurd (ball.labelled.far v none p walk));
       };
       members = ball.members;
-      ascending = ball.ascending
+      ascending = ball.ascending;
     }
 searched g s (Some r) (Some q) b bound is ball =
     subst (λ (x : ℕ). IsBall g s (Some x) b) is.0 ball

@@ -17,10 +17,10 @@ fits_or_not labels left s (Some near) is =
     ⊎_elim
     (λ (same : s.length + near ≡ left). inl (record { near = near; label = is; sum = same }))
     (λ (apart : s.length + near ≡ left → ⊥).
-      inr (λ h.
-        let e : Some h.near ≡ Some near = sym h.label ∙ is in
-        let n : h.near ≡ near = cc in
-        apart (ap (λ (k : ℕ). s.length + k) (sym n) ∙ h.sum)))
+    inr (λ h.
+    let e : Some h.near ≡ Some near = sym h.label ∙ is in
+    let n : h.near ≡ near = cc in
+    apart (ap (λ (k : ℕ). s.length + k) (sym n) ∙ h.sum)))
     (cases_eq (s.length + near) left)
 
 abbrev NoneOf : List (Option ℕ) → ℕ → List Step → Type 0
@@ -50,13 +50,13 @@ first_fit labels left [] = inr (λ j s is h. let e : None ≡ Some s = is in cc)
 first_fit labels left (x ∷ steps) =
     ⊎_elim
     (λ (yes : HasTightLabel labels left x).
-      inl (record { place = zero; step = x; is = refl; tight = yes; before = (λ j s lt is h. absurd (omega arith)) }))
+    inl (record { place = zero; step = x; is = refl; tight = yes; before = (λ j s lt is h. absurd (omega arith)) }))
     (λ (not : HasTightLabel labels left x → ⊥).
-      ⊎_elim
-      (λ (later : FirstFit labels left steps).
-        inl (record { place = suc later.place; step = later.step; is = later.is; tight = later.tight; before = before_later labels left x steps later.place not later.before }))
-      (λ (none : NoneOf labels left steps). inr (none_more labels left x steps not none))
-      (first_fit labels left steps))
+    ⊎_elim
+    (λ (later : FirstFit labels left steps).
+    inl (record { place = suc later.place; step = later.step; is = later.is; tight = later.tight; before = before_later labels left x steps later.place not later.before }))
+    (λ (none : NoneOf labels left steps). inr (none_more labels left x steps not none))
+    (first_fit labels left steps))
     (fits_or_not labels left x (label_at labels x.head) refl)
 
 -- a vertex other than the root that has a label has a least tight arc
@@ -69,11 +69,11 @@ step_exists g t v left labels rooted other label =
     let steps = steps_from v 1 g.arcs in
     ⊎_elim
     (λ (first : FirstFit labels left steps).
-      let least : IsLeastStep g t labels v first.step = least_step g t v left first.place labels first.step rooted other label first.before first.is first.tight in
-      let found : HasLeastStep g t labels v = record { step = first.step; least = least } in
-      found)
+    let least : IsLeastStep g t labels v first.step = least_step g t v left first.place labels first.step rooted other label first.before first.is first.tight in
+    let found : HasLeastStep g t labels v = record { step = first.step; least = least } in
+    found)
     (λ (none : NoneOf labels left steps).
-      absurd (none_left g t v left (length steps) labels rooted other label (λ j s lt is h. none j s is h) (slice_get_past steps (length steps) (omega arith))))
+    absurd (none_left g t v left (length steps) labels rooted other label (λ j s lt is h. none j s is h) (slice_get_past steps (length steps) (omega arith))))
     (first_fit labels left steps)
 
 -- a canonical walk
@@ -86,16 +86,16 @@ last_within zero g t v k labels rooted lt label = absurd (omega arith)
 last_within (suc n) g t v k labels rooted lt label =
     ⊎_elim
     (λ (same : v ≡ t).
-      let found : HasLast g v t = record { path = []; last = subst (λ (u : ℕ). IsLast g u [] t) (sym same) (IsLast-nil g t) } in
-      found)
+    let found : HasLast g v t = record { path = []; last = subst (λ (u : ℕ). IsLast g u [] t) (sym same) (IsLast-nil g t) } in
+    found)
     (λ (other : v ≡ t → ⊥).
-      let next = step_exists g t v k labels rooted other label in
-      let one = step_positive g t v labels next.step rooted next.least in
-      let both : Some k ≡ Some (next.step.length + next.least.near) = sym label ∙ next.least.label in
-      let sum : k ≡ next.step.length + next.least.near = cc in
-      let rest = last_within n g t next.step.head next.least.near labels rooted (omega arith) next.least.behind in
-      let found : HasLast g v t = record { path = next.step.arc ∷ rest.path; last = IsLast-step g t v labels next.step rest.path rooted next.least rest.last } in
-      found)
+    let next = step_exists g t v k labels rooted other label in
+    let one = step_positive g t v labels next.step rooted next.least in
+    let both : Some k ≡ Some (next.step.length + next.least.near) = sym label ∙ next.least.label in
+    let sum : k ≡ next.step.length + next.least.near = cc in
+    let rest = last_within n g t next.step.head next.least.near labels rooted (omega arith) next.least.behind in
+    let found : HasLast g v t = record { path = next.step.arc ∷ rest.path; last = IsLast-step g t v labels next.step rest.path rooted next.least rest.last } in
+    found)
     (cases_eq v t)
 
 pub last_exists : (g : Graph) (t v k : ℕ) (labels : List (Option ℕ)) → IsRooted g t labels → label_at labels v ≡ Some k → HasLast g v t

@@ -31,7 +31,7 @@ tight_label g t v left b labels x k rooted label tight =
     record {
       near = k;
       label = behind_cases g t v left b labels x k (label_at labels x.head) rooted label tight refl;
-      sum = whole
+      sum = whole;
     }
 
 abbrev pub NoneBefore : Graph → ℕ → ℕ → List (Option ℕ) → ℕ → Type 0
@@ -45,32 +45,32 @@ tight_of_step g t v left labels s rooted label r h =
       is = r.arc;
       tail = r.tail;
       behind = behind;
-      whole = subst (λ (n : ℕ). IsDist g v t (Some n)) sum (rooted.exact v left label)
+      whole = subst (λ (n : ℕ). IsDist g v t (Some n)) sum (rooted.exact v left label);
     }
 
 pub least_step : (g : Graph) (t v left i : ℕ) (labels : List (Option ℕ)) (s : Step) → IsRooted g t labels → v ≢ t → label_at labels v ≡ Some left → NoneBefore g v left labels i → step_at g v i ≡ Some s → HasTightLabel labels left s → IsLeastStep g t labels v s
 least_step g t v left i labels s rooted other label before is h =
     let r = step_row g v i s is in
     let least = (λ (b : ℕ) (x : ArcRow) (k : ℕ) (tight : IsTight g t v b x k).
-      let found = step_of_arc g v b x tight.is tight.tail in
-      let low : s.arc ≤ b =
-          ⊎_elim
-          (λ (same : found.at ≡ i).
-            let both : Some s ≡ Some (step_of b x) = sym is ∙ ap (λ (n : ℕ). step_at g v n) (sym same) ∙ found.is in
-            let step : s ≡ step_of b x = cc in
-            let number : s.arc ≡ b = ap (λ (y : Step). y.arc) step in
-            let le : s.arc ≤ b = omega arith in
-            le)
-          (λ (apart : (found.at < i) ⊎ (i < found.at)).
-            ⊎_elim
-            (λ (lt : found.at < i). absurd (before found.at (step_of b x) lt found.is (tight_label g t v left b labels x k rooted label tight)))
-            (λ (gt : i < found.at).
-              let rise : s.arc < b = steps_rise g v i found.at s (step_of b x) gt is found.is in
-              let le : s.arc ≤ b = omega arith in
-              le)
-            apart)
-          (cases_order found.at i) in
-      low) in
+    let found = step_of_arc g v b x tight.is tight.tail in
+    let low : s.arc ≤ b =
+    ⊎_elim
+    (λ (same : found.at ≡ i).
+    let both : Some s ≡ Some (step_of b x) = sym is ∙ ap (λ (n : ℕ). step_at g v n) (sym same) ∙ found.is in
+    let step : s ≡ step_of b x = cc in
+    let number : s.arc ≡ b = ap (λ (y : Step). y.arc) step in
+    let le : s.arc ≤ b = omega arith in
+    le)
+    (λ (apart : (found.at < i) ⊎ (i < found.at)).
+    ⊎_elim
+    (λ (lt : found.at < i). absurd (before found.at (step_of b x) lt found.is (tight_label g t v left b labels x k rooted label tight)))
+    (λ (gt : i < found.at).
+    let rise : s.arc < b = steps_rise g v i found.at s (step_of b x) gt is found.is in
+    let le : s.arc ≤ b = omega arith in
+    le)
+    apart)
+    (cases_order found.at i) in
+    low) in
     record {
       row = r.row;
       near = h.near;
@@ -79,7 +79,7 @@ least_step g t v left i labels s rooted other label before is h =
       least = record { tight = tight_of_step g t v left labels s rooted label r h; least = least };
       other = other;
       label = label ∙ ap (λ (n : ℕ). Some n) (sym h.sum);
-      behind = h.label
+      behind = h.label;
     }
 
 found_before : (g : Graph) (v i j : ℕ) (s : Step) → step_at g v i ≡ None → step_at g v j ≡ Some s → j < i
@@ -87,7 +87,7 @@ found_before g v i j s none is =
     let inside : j < length (steps_from v 1 g.arcs) = slice_get_within (steps_from v 1 g.arcs) j s is in
     ⊎_elim
     (λ (h : (x : Step) × (i < length (steps_from v 1 g.arcs)) × (step_at g v i ≡ Some x) × _).
-      absurd (let e : None ≡ Some h.0 = sym none ∙ h.2 in cc))
+    absurd (let e : None ≡ Some h.0 = sym none ∙ h.2 in cc))
     (λ (h : (length (steps_from v 1 g.arcs) ≤ i) × (step_at g v i ≡ None)). let lt : j < i = omega (arith, h.0) in lt)
     (slice_get_cases (steps_from v 1 g.arcs) i).1
 

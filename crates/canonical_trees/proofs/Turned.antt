@@ -19,7 +19,7 @@ pub IsShortest-unreversed : (g : Graph) (p : List ℕ) (u v : ℕ) → IsShortes
 IsShortest-unreversed g p u v h =
     record {
       walk = IsWalk-unreversed g p v u h.walk;
-      least = (λ q w. omega (arith, h.least (reverse q) (IsWalk-reversed g q u v w), walk_length-reversed g q, walk_length-unreversed g p))
+      least = (λ q w. omega (arith, h.least (reverse q) (IsWalk-reversed g q u v w), walk_length-reversed g q, walk_length-unreversed g p));
     }
 
 pub IsShortest-reversed : (g : Graph) (p : List ℕ) (u v : ℕ) → IsShortest g u p v → IsShortest (reversed g) v (reverse p) u
@@ -32,7 +32,7 @@ IsFirst-unreversed g s v p h =
     record {
       shortest = IsShortest-unreversed g p s v h.shortest;
       least = (λ q short.
-        subst (λ (x : List ℕ). LexLe x (reverse q)) (sym (reverse-reverse p)) (h.least (reverse q) (IsShortest-reversed g q s v short)))
+          subst (λ (x : List ℕ). LexLe x (reverse q)) (sym (reverse-reverse p)) (h.least (reverse q) (IsShortest-reversed g q s v short)));
     }
 
 pub IsLast-reversed : (g : Graph) (s v : ℕ) (p : List ℕ) → IsFirst g s p v → IsLast (reversed g) v (reverse p) s
@@ -40,5 +40,5 @@ IsLast-reversed g s v p h =
     record {
       shortest = IsShortest-reversed g p s v h.shortest;
       least = (λ q short.
-        subst (λ (x : List ℕ). LexLe (reverse p) x) (reverse-reverse q) (h.least (reverse q) (IsShortest-unreversed g q s v short)))
+          subst (λ (x : List ℕ). LexLe (reverse p) x) (reverse-reverse q) (h.least (reverse q) (IsShortest-unreversed g q s v short)));
     }

@@ -54,7 +54,7 @@ length_found g s t length found labels limits h is label =
     let same : hit.distance ≡ length = cc in
     record {
       every = (λ p first. sym same ∙ IsDist-same g s t hit.distance (walk_length g p) hit.dist (dist_of_shortest g s t p first.shortest));
-      short = subst (λ (n : ℕ). n < 2 ^ 57) same (dist_below g s t hit.distance (2 ^ 57) (dists_below g limits) hit.dist)
+      short = subst (λ (n : ℕ). n < 2 ^ 57) same (dist_below g s t hit.distance (2 ^ 57) (dists_below g limits) hit.dist);
     }
 
 -- a label is a distance, and so it isn't long

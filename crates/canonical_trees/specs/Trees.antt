@@ -5,7 +5,8 @@
 --   IsInside g r u v       a walk leads from u to v, and the distance is within the radius
 --   IsOutside g r u v      each walk from u to v is beyond the radius
 --   IsLabel g r u v d      Some d: d is the distance from u to v, and within the radius; None: outside
---   IsMembers In vs        vs are the vertices that are inside, each once, ascending
+--   IsMembers In vs        vs are the vertices that In holds of, each once, ascending
+--   IsMembersFrom, IsMembersTo  those inside the ball from a source, or to a target
 --   IsFromStep g r s v x   Some: the last arc of the canonical path from s to v, which isn't s, seen from v;
 --                          None: v is s, or outside
 --   IsToStep g r v t x     Some: the first arc of the canonical path from v, which isn't t, to t;
@@ -52,6 +53,12 @@ pub record IsMembers (In : ℕ → Type 0) (members : List ℕ) : Type 0 where
   pub each : (v : ℕ) → Contains members v → In v
   pub every : (v : ℕ) → In v → Contains members v
   pub ascending : IsStrictlyIncreasing members
+
+abbrev pub IsMembersFrom : Graph → Option ℕ → ℕ → List ℕ → Type 0
+IsMembersFrom g radius s members = IsMembers (λ v. IsInside g radius s v) members
+
+abbrev pub IsMembersTo : Graph → Option ℕ → ℕ → List ℕ → Type 0
+IsMembersTo g radius t members = IsMembers (λ v. IsInside g radius v t) members
 
 pub record IsLastStep (g : Graph) (radius : Option ℕ) (s v : ℕ) (x : Step) : Type 0 where
   pub inside : IsInside g radius s v

@@ -8,6 +8,7 @@ use road_model::{ArcNo, Network, NoMemory, Step, Vertex};
 use tree_search::Labels;
 
 /// The label behind the step, and its length, make what is left.
+#[inline]
 fn is_tight(labels: &Labels, step: &Step, left: u64) -> bool
     ensures { IsTrue result ↔ HasTightLabel labels.now left step.now }
 {

@@ -7,14 +7,13 @@ ghost use Rattle.tree_search.specs.Ball.{label_at};
 ghost use Rattle.canonical_trees.specs.Tight.{IsRooted};
 ghost use Rattle.canonical_trees.specs.Trees.{IsViaPath};
 
+use crate::descent::follow;
+use crate::tree_pair::TreePair;
 use forward_star::Star;
 use road_model::{ArcList, ArcNo, NoMemory, Optimum, Vertex};
 use std::alloc::Global;
 use tree_search::Labels;
 use tree_search::search::labels_to;
-
-use crate::descent::follow;
-use crate::tree_pair::TreePair;
 
 /// The canonical path from `s` to `v`, by the labels of a search from `s`. It is found from its end.
 pub(crate) fn path_from(
@@ -36,11 +35,7 @@ pub(crate) fn path_from(
 
 /// The canonical path from the source to `v`, followed by the one from `v` to the target. None where `v` is outside
 /// one of the balls. Takes the time of the arcs at the vertices of the path, and 4 bytes an arc.
-pub fn via_path(
-    alloc: Global,
-    pair: &TreePair<'_>,
-    v: Vertex,
-) -> Result<Option<ArcList>, NoMemory>
+pub fn via_path(alloc: Global, pair: &TreePair<'_>, v: Vertex) -> Result<Option<ArcList>, NoMemory>
     ensures { IfOk result (λ path. IsViaPath pair.now v path) }
 {
     if pair.from_label(v).is_none() {

@@ -4,18 +4,17 @@ ghost use Rattle.std.specs.Prelude.{◌≡◌, ◌<◌, ◌^◌, IfOk, IfSome, O
 ghost use Rattle.road_model.specs.Graph.{IsVertex};
 ghost use Rattle.road_model.specs.Canonical.{IsFirst};
 ghost use Rattle.canonical_trees.specs.Tight.{Adds};
-ghost use Rattle.canonical_trees.specs.Trees.{IsInside, IsLabel, IsMembers, IsSearched};
+ghost use Rattle.canonical_trees.specs.Trees.{IsInside, IsLabel, IsMembersFrom, IsMembersTo, IsSearched};
 ghost use Rattle.canonical_trees.specs.Trees.{IsFromStep, IsToStep, IsFromArc, IsToArc};
 
+use crate::descent::{follow, step_down};
+use crate::path::path_from;
 use forward_star::Star;
 use road_model::{ArcNo, NoMemory, Step, Vertex, VertexList};
 use std::alloc::Global;
 use std::marker::Model;
-use tree_search::search::ball;
 use tree_search::Ball;
-
-use crate::descent::{follow, step_down};
-use crate::path::path_from;
+use tree_search::search::ball;
 
 /// No distance of a star is as long as this.
 const ABOVE_ALL: u64 = 144115188075855872;
@@ -122,8 +121,7 @@ pub fn trees<'a>(
     requires source { IsVertex star.now.vertices s }
     requires target { IsVertex star.now.vertices t }
     ensures { IfOk result
-        (λ pair. pair
-            ≡ record { graph = star.now; source = s; target = t; radius = radius }) }
+        (λ pair. pair ≡ record { graph = star.now; source = s; target = t; radius = radius }) }
 {
     let from = tree_from(alloc, star, s, radius)?;
     let to = tree_to(alloc, star, t, radius)?;
@@ -146,7 +144,7 @@ impl FromTree<'_> {
     }
 
     fn members(&self) -> &VertexList
-        ensures { IsMembers (λ v. IsInside self.now.graph self.now.radius self.now.root v) result.now }
+        ensures { IsMembersFrom self.now.graph self.now.radius self.now.root result.now }
     {
         self.ball.members()
     }
@@ -182,7 +180,7 @@ impl ToTree<'_> {
     }
 
     fn members(&self) -> &VertexList
-        ensures { IsMembers (λ v. IsInside self.now.graph self.now.radius v self.now.root) result.now }
+        ensures { IsMembersTo self.now.graph self.now.radius self.now.root result.now }
     {
         self.ball.members()
     }
@@ -214,7 +212,12 @@ impl<'a> Model for TreePair<'a> {
 
     ghost Value = { Trees };
 
-    ghost view = { λ p. record { graph = p.from.graph; source = p.from.root; target = p.to.root; radius = p.from.radius } };
+    ghost view = { λ p. record {
+      graph = p.from.graph;
+      source = p.from.root;
+      target = p.to.root;
+      radius = p.from.radius;
+    } };
 
     ghost invariant = { λ p. (p.to.graph ≡ p.from.graph) × (p.to.radius ≡ p.from.radius) };
 }
@@ -225,21 +228,26 @@ impl<'a> TreePair<'a> {
         requires one_star { from.graph ≡ to.graph }
         requires one_radius { from.radius ≡ to.radius }
         ensures { result
-            ≡ record { graph = from.entry.graph; source = from.entry.root; target = to.entry.root; radius = from.entry.radius } }
+            ≡ record {
+              graph = from.entry.graph;
+              source = from.entry.root;
+              target = to.entry.root;
+              radius = from.entry.radius;
+            } }
     {
         TreePair { from, to }
     }
 
     /// The vertices of the ball from the source.
     pub fn from_members(&self) -> &VertexList
-        ensures { IsMembers (λ v. IsInside self.now.graph self.now.radius self.now.source v) result.now }
+        ensures { IsMembersFrom self.now.graph self.now.radius self.now.source result.now }
     {
         self.from.members()
     }
 
     /// The vertices of the ball to the target.
     pub fn to_members(&self) -> &VertexList
-        ensures { IsMembers (λ v. IsInside self.now.graph self.now.radius v self.now.target) result.now }
+        ensures { IsMembersTo self.now.graph self.now.radius self.now.target result.now }
     {
         self.to.members()
     }
@@ -325,7 +333,11 @@ impl<'a> TreePair<'a> {
     }
 
     /// Adds the canonical path from a vertex inside the ball of the target.
-    pub(crate) fn add_path_to_target(&self, v: Vertex, arcs: &mut Vec<ArcNo>) -> Result<(), NoMemory>
+    pub(crate) fn add_path_to_target(
+        &self,
+        v: Vertex,
+        arcs: &mut Vec<ArcNo>,
+    ) -> Result<(), NoMemory>
         requires { IsInside self.now.graph self.now.radius v self.now.target }
         ensures { OnOk result (Adds self.now.graph self.now.target v arcs.old.items arcs.new.items) }
     {

@@ -6,13 +6,12 @@ pub loop-step-preserved : goal.loop-step-preserved
 loop-step-preserved g c = record {
   labelled = some_at _ c.in-Some.ensures.near c.in-Some.ensures.behind;
   walked =
-    let before = c.loop-step.invariant.walked in
-    let s = c.in-Some.step in
-    (
-      before.0 ++ s.arc ∷ [],
-      c.in_ok-push.ensures.items ∙ ap (λ (l : List ℕ). l ++ s.arc ∷ []) before.1 ∙ append_assoc c.args.arcs.now.items before.0 (s.arc ∷ []),
-      walked_on (g.N.Network.graph c.args.net.now) c.args.root c.args.v c.loop-step.at c.args.labels.now s before.0 c.requires.rooted c.in-Some.ensures before.2
-    );
+      let before = c.loop-step.invariant.walked in
+      let s = c.in-Some.step in (
+        before.0 ++ s.arc ∷ [],
+        c.in_ok-push.ensures.items ∙ ap (λ (l : List ℕ). l ++ s.arc ∷ []) before.1 ∙ append_assoc c.args.arcs.now.items before.0 (s.arc ∷ []),
+        walked_on (g.N.Network.graph c.args.net.now) c.args.root c.args.v c.loop-step.at c.args.labels.now s before.0 c.requires.rooted c.in-Some.ensures before.2,
+      );
 }
 
 pub returns : goal.returns

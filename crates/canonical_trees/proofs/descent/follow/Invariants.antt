@@ -8,7 +8,7 @@ use Rattle.canonical_trees.proofs.descent.follow.Given as goal
 abbrev pub invariant-loop-step : goal.invariant-loop-step
 invariant-loop-step g l = record {
   labelled : IsSome (label_at l.labels l.at);
-  walked : (walk : List ℕ) × (l.arcs.items ≡ l.initial.arcs.items ++ walk) × ((rest : List ℕ) → IsLast (g.N.Network.graph l.net) l.at rest l.root → IsLast (g.N.Network.graph l.net) l.fn.v (walk ++ rest) l.root)
+  walked : (walk : List ℕ) × (l.arcs.items ≡ l.initial.arcs.items ++ walk) × ((rest : List ℕ) → IsLast (g.N.Network.graph l.net) l.at rest l.root → IsLast (g.N.Network.graph l.net) l.fn.v (walk ++ rest) l.root);
 }
 
 abbrev pub decreases-loop-step : goal.decreases-loop-step

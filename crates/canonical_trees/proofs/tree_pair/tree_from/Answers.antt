@@ -8,5 +8,5 @@ pub invariant_of-result : goal.invariant_of-result
 invariant_of-result c = record {
   limits = c.graph-limits.ensures.limits;
   root = c.requires;
-  ball = ball_from c.args.star.now c.args.s c.args.radius c.searched.result c.in_ok-ball.ball c.graph-limits.ensures.limits c.searched.ensures c.in_ok-ball.ensures
+  ball = ball_from c.args.star.now c.args.s c.args.radius c.searched.result c.in_ok-ball.ball c.graph-limits.ensures.limits c.searched.ensures c.in_ok-ball.ensures;
 }

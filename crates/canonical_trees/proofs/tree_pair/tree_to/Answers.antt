@@ -11,5 +11,5 @@ pub invariant_of-result : goal.invariant_of-result
 invariant_of-result c = record {
   limits = c.graph-limits.ensures.limits;
   root = c.requires;
-  ball = ball_to c.args.star.now c.reversed.result c.args.t c.args.radius c.searched.result c.in_ok-ball.ball c.graph-limits.ensures.limits c.reversed.ensures c.searched.ensures c.in_ok-ball.ensures
+  ball = ball_to c.args.star.now c.reversed.result c.args.t c.args.radius c.searched.result c.in_ok-ball.ball c.graph-limits.ensures.limits c.reversed.ensures c.searched.ensures c.in_ok-ball.ensures;
 }
