@@ -1,13 +1,10 @@
-// A library with one function.
+//! The test of local optimality: every subpath of a walk that is short enough has to be a shortest walk.
+//!
+//! The walk is handed in as the places of two shortest walks, joined at a via.
 #![tactic(auto)]
 
-ghost use Rattle.std.specs.Prelude.{◌≡◌};
-ghost use Rattle.local_optimality.specs.Echo.{echo_of};
+mod detours;
+mod optimality;
+mod tested;
 
-// The `ensures` clause is the contract: what `echo` returns is `echo_of` of its argument, a definition
-// in `specs/Echo.antt`, which a caller's clause can cite too.
-pub fn echo(x: usize) -> usize
-    ensures { result ≡ echo_of x }
-{
-    x
-}
+pub use optimality::local;

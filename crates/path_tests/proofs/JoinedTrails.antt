@@ -1,9 +1,9 @@
 -- The places of two shortest walks, joined at a via.
-use Rattle.std.proofs.Common.{◌≡◌, ℕ, ◌+◌, ◌-◌, ◌<◌, ◌≤◌, ◌^◌, zero, suc, List, [], ◌∷◌, ◌++◌, length, get_or, Some, None, refl, sym, ap, ◌∙◌, subst, arith, length-append, append_assoc}
+use Rattle.std.proofs.Common.{◌≡◌, ℕ, ◌+◌, ◌<◌, ◌≤◌, ◌^◌, zero, suc, List, [], ◌∷◌, ◌++◌, length, get_or, Some, None, refl, sym, subst, arith, length-append}
 use Rattle.road_model.specs.declared.trail.Trail.{Trail}
-use Rattle.road_model.specs.Graph.{Graph, IsGraph, IsVertex, head_at, length_at}
-use Rattle.road_model.specs.Walk.{IsWalk, walk_length}
-use Rattle.road_model.specs.Dist.{IsDist, IsShortest, HaveSameDist, NoWalk}
+use Rattle.road_model.specs.Graph.{Graph, IsGraph, IsVertex, length_at}
+use Rattle.road_model.specs.Walk.{IsWalk}
+use Rattle.road_model.specs.Dist.{IsShortest, HaveSameDist}
 use Rattle.road_model.specs.Places.{places, sums, trail_of, vertex_at, between, IsDistAt}
 use Rattle.road_model.specs.ViaWalk.{IsViaWalk}
 use Rattle.road_model.proofs.Walks.{IsWalk-append, IsWalk-inside, walk_length-append}
@@ -46,11 +46,13 @@ inner_part g u e p i a b j walk ia ab bj inside h =
     let behind : Parted g u p b j = parted g u e p b j walk bj inside in
     let low = sums_rise g 0 p i a ia (omega arith) in
     let mid = sums_rise g 0 p a b ab (omega arith) in
-    let high = sums_rise g 0 p b j bj inside in
-    (record { path = middle.part; walk = middle.walk; long = middle.long }, (λ q other.
-        let rest : IsWalk g (vertex_at (trail_of g u p) a) (q ++ behind.part) (vertex_at (trail_of g u p) j) = IsWalk-append g q behind.part (vertex_at (trail_of g u p) a) (vertex_at (trail_of g u p) b) (vertex_at (trail_of g u p) j) other behind.walk in
-        let whole = h.1 (before.part ++ (q ++ behind.part)) (IsWalk-append g before.part (q ++ behind.part) (vertex_at (trail_of g u p) i) (vertex_at (trail_of g u p) a) (vertex_at (trail_of g u p) j) before.walk rest) in
-        omega (arith, walk_length-append g before.part (q ++ behind.part), walk_length-append g q behind.part, before.long, behind.long)))
+    let high = sums_rise g 0 p b j bj inside in (
+      record { path = middle.part; walk = middle.walk; long = middle.long },
+      (λ q other.
+          let rest : IsWalk g (vertex_at (trail_of g u p) a) (q ++ behind.part) (vertex_at (trail_of g u p) j) = IsWalk-append g q behind.part (vertex_at (trail_of g u p) a) (vertex_at (trail_of g u p) b) (vertex_at (trail_of g u p) j) other behind.walk in
+          let whole = h.1 (before.part ++ (q ++ behind.part)) (IsWalk-append g before.part (q ++ behind.part) (vertex_at (trail_of g u p) i) (vertex_at (trail_of g u p) a) (vertex_at (trail_of g u p) j) before.walk rest) in
+          omega (arith, walk_length-append g before.part (q ++ behind.part), walk_length-append g q behind.part, before.long, behind.long)),
+    )
 
 joined_walks : (o g : Graph) (s m e : ℕ) (f b : List ℕ) → HaveSameDist g o → IsGraph g → IsVertex g.vertices s → IsShortest g s f m → IsShortest g m b e → length (f ++ b) + 1 < 2 ^ 32 → IsJoinedTrail o (trail_of g s (f ++ b)) (length f)
 joined_walks o g s m e f b same sound inside front back few =

@@ -1,13 +1,10 @@
 -- A search for the least failing pair that asks for one pair after the other.
-use Rattle.std.proofs.Common.{◌≡◌, ℕ, ◌+◌, ◌-◌, ◌*◌, ◌<◌, ◌≤◌, ◌^◌, length, Option, Some, None, sym, ◌∙◌, subst, arith, ⊎_elim}
+use Rattle.std.proofs.Common.{◌≡◌, ℕ, ◌+◌, ◌-◌, ◌*◌, ◌<◌, ◌≤◌, Option, Some, None, sym, subst, arith, ⊎_elim}
 use Rattle.std.proofs.lemmas.Bool.{cases_lt}
 use Rattle.road_model.specs.declared.answer.Pair.{Pair}
-use Rattle.road_model.specs.declared.trail.Trail.{Trail}
-use Rattle.road_model.specs.Graph.{Graph, IsVertex}
-use Rattle.road_model.specs.Dist.{NoWalk}
-use Rattle.road_model.specs.Places.{vertex_at, between, IsDistAt}
+use Rattle.road_model.specs.Graph.{Graph}
 use Rattle.road_model.specs.Tests.{IsLeastFailure}
-use Rattle.path_tests.specs.JoinedTrail.{IsJoinedTrail, FindsFrom, FindsLeastFrom, AsksWithin}
+use Rattle.path_tests.specs.JoinedTrail.{FindsFrom, FindsLeastFrom, AsksWithin}
 
 pub AsksWithin-none : (a : ℕ) → AsksWithin a a 0
 AsksWithin-none a = record { few = omega arith; counted = (λ lt. (omega arith, lt)) }
@@ -41,16 +38,16 @@ pub ends_more : (F : ℕ → ℕ → ℕ → Type 0) (i last : ℕ) → ((j d : 
 ends_more F i last below here j d lt h =
     ⊎_elim (λ (less : j < last). below j d less h)
     (λ (le : last ≤ j).
-        let same : j ≡ last = omega arith in
-        here d (subst (λ (n : ℕ). F i n d) same h))
+    let same : j ≡ last = omega arith in
+    here d (subst (λ (n : ℕ). F i n d) same h))
     (cases_lt j last)
 
 pub starts_more : (F : ℕ → ℕ → ℕ → Type 0) (first : ℕ) → ((i j d : ℕ) → i < first → F i j d → ⊥) → ((j d : ℕ) → F first j d → ⊥) → (i j d : ℕ) → i < first + 1 → F i j d → ⊥
 starts_more F first below here i j d lt h =
     ⊎_elim (λ (less : i < first). below i j d less h)
     (λ (le : first ≤ i).
-        let same : i ≡ first = omega arith in
-        here j d (subst (λ (n : ℕ). F n j d) same h))
+    let same : i ≡ first = omega arith in
+    here j d (subst (λ (n : ℕ). F n j d) same h))
     (cases_lt i first)
 
 -- where none below passes, a failing place is the least
@@ -77,16 +74,3 @@ pub none_found : (F : Graph → ℕ → ℕ → ℕ → Type 0) (old now : Graph
 none_found F old now first found same h is j d fails =
     let none = subst (λ (o : Option Pair). FindsLeastFrom (F now) first o) is h in
     none j d (subst (λ (g : Graph). F g first j d) (sym same) fails)
-
--- what a question about two places asks, of the graph as the oracle has it now
-pub place_is_vertex : (old now : Graph) (t : Trail) (via i : ℕ) → now ≡ old → IsJoinedTrail old t via → i < length t.vertices → IsVertex now.vertices (vertex_at t i)
-place_is_vertex old now t via i same h lt =
-    subst (λ (g : Graph). IsVertex g.vertices (vertex_at t i)) (sym same) (h.vertices i lt)
-
-pub places_are_joined : (old now : Graph) (t : Trail) (via i j : ℕ) → now ≡ old → IsJoinedTrail old t via → i ≤ j → j < length t.vertices → NoWalk now (vertex_at t i) (vertex_at t j) → ⊥
-places_are_joined old now t via i j same h le lt none =
-    h.reached i j le lt (subst (λ (g : Graph). NoWalk g (vertex_at t i) (vertex_at t j)) same none)
-
--- and what it answers, of the graph as it was
-pub IsDistAt-then : (old now : Graph) (t : Trail) (i j d : ℕ) → now ≡ old → IsDistAt now t i j d → IsDistAt old t i j d
-IsDistAt-then old now t i j d same h = subst (λ (g : Graph). IsDistAt g t i j d) same h

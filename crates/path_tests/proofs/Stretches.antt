@@ -16,11 +16,7 @@ stretch_passes old e t i j d h within c fails =
     let above : Exceeds e (between t i j) d = subst (λ (n : ℕ). Exceeds e (between t i j) n) same fails.above in
     omega arith
 
--- so a pair within one of the two walks does not
-pub stretch_in_front : (old : Graph) (e : Fraction) (t : Trail) (via i j d : ℕ) → IsJoinedTrail old t via → j ≤ via → FailsStretch old e t i j d → ⊥
-stretch_in_front old e t via i j d h le fails =
-    stretch_passes old e t i j (between t i j) (h.front i j (omega (arith, fails.rise)) le) (omega arith) d fails
-
+-- so a pair behind the via does not
 pub stretch_in_back : (old : Graph) (e : Fraction) (t : Trail) (via i j d : ℕ) → IsJoinedTrail old t via → via ≤ i → FailsStretch old e t i j d → ⊥
 stretch_in_back old e t via i j d h le fails =
     stretch_passes old e t i j (between t i j) (h.back i j le (omega (arith, fails.rise)) fails.inside) (omega arith) d fails
@@ -41,8 +37,8 @@ stretch_fails old now e t i j d long within same rise inside h is only failed =
       inside = inside;
       dist = subst (λ (g : Graph). IsDistAt g t i j d) same h;
       above = ⊎_elim (λ (lt : (e.den + e.num) * d < between t i j * e.den). lt)
-        (λ (le : between t i j * e.den ≤ (e.den + e.num) * d). absurd (let passed : within ≡ true = one le in let e : false ≡ true = sym failed ∙ passed in cc))
-        (cases_lt ((e.den + e.num) * d) (between t i j * e.den));
+          (λ (le : between t i j * e.den ≤ (e.den + e.num) * d). absurd (let passed : within ≡ true = one le in let e : false ≡ true = sym failed ∙ passed in cc))
+          (cases_lt ((e.den + e.num) * d) (between t i j * e.den));
     }
 
 pub stretch_clears : (old now : Graph) (e : Fraction) (t : Trail) (i j d long : ℕ) (within : Bool) → now ≡ old → IsDistAt now t i j d → long ≡ between t i j → (IsTrue within → Stretches e long d) → within ≡ true → (c : ℕ) → FailsStretch old e t i j c → ⊥

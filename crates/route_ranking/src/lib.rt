@@ -1,13 +1,6 @@
-// A library with one function.
+//! Ranks, and the order of the alternatives by them.
 #![tactic(auto)]
 
-ghost use Rattle.std.specs.Prelude.{◌≡◌};
-ghost use Rattle.route_ranking.specs.Echo.{echo_of};
+mod order;
 
-// The `ensures` clause is the contract: what `echo` returns is `echo_of` of its argument, a definition
-// in `specs/Echo.antt`, which a caller's clause can cite too.
-pub fn echo(x: usize) -> usize
-    ensures { result ≡ echo_of x }
-{
-    x
-}
+pub use order::{order_routes, rank};

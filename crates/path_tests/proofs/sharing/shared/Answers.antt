@@ -14,6 +14,6 @@ loop-a-preserved g c =
     let is = item_of _ _ _ _ c.as_slice-a-items.ensures c.loop-a-test.true c.a-item.is in
     let answer = c.has_arc.ensures ∙ ap (λ (l : List ℕ). list_any (λ b. b == c.a-item.result) l) c.as_slice.ensures in
     elim c.if-has_arc.branch [
-      then-has_arc w ↦ w.sum-is ∙ shared_more_yes (g.N.Network.graph c.args.net.now) _ c.args.arcs.now _ _ _ _ is (sym w.if-has_arc.true ∙ answer) c.loop-a.invariant w.arc_length-sum.ensures
-    | else-has_arc w ↦ w.sum-is ∙ shared_more_no (g.N.Network.graph c.args.net.now) _ c.args.arcs.now _ _ _ is (sym w.if-has_arc.false ∙ answer) c.loop-a.invariant
+      | then-has_arc w ↦ w.sum-is ∙ shared_more_yes (g.N.Network.graph c.args.net.now) _ c.args.arcs.now _ _ _ _ is (sym w.if-has_arc.true ∙ answer) c.loop-a.invariant w.arc_length-sum.ensures
+      | else-has_arc w ↦ w.sum-is ∙ shared_more_no (g.N.Network.graph c.args.net.now) _ c.args.arcs.now _ _ _ is (sym w.if-has_arc.false ∙ answer) c.loop-a.invariant
     ]

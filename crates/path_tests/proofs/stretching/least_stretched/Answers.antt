@@ -15,7 +15,7 @@ loop-first-preserved g c =
     record {
       same = c.least_stretched_from.ensures.same ∙ c.loop-first.invariant.same;
       passed = starts_more (FailsStretch (g.O.Oracle.graph c.args.oracle.now) c.args.epsilon.now c.args.trail.now) c.loop-first.first c.loop-first.invariant.passed
-        (none_found (λ (x : Graph). FailsStretch x c.args.epsilon.now c.args.trail.now) _ _ c.loop-first.first _ c.loop-first.invariant.same c.in_ok-pair.ensures.found c.in_default.is);
+          (none_found (λ (x : Graph). FailsStretch x c.args.epsilon.now c.args.trail.now) _ _ c.loop-first.first _ c.loop-first.invariant.same c.in_ok-pair.ensures.found c.in_default.is);
       asks = AsksWithin-up _ _ (c.loop-first.first * each + each) _ (omega arith) (AsksWithin-both _ _ _ (c.loop-first.first * each) each c.loop-first.invariant.asks c.least_stretched_from.ensures.asks);
     }
 

@@ -1,4 +1,4 @@
-use Rattle.std.proofs.Common.{ℕ, ◌≤◌, ◌-◌, ◌+◌, length, refl, ◌∙◌, arith}
+use Rattle.std.proofs.Common.{ℕ, ◌-◌, ◌+◌, refl, ◌∙◌, arith}
 use Rattle.road_model.specs.Tests.{FailsStretch}
 use Rattle.path_tests.proofs.Searches.{AsksWithin-both, AsksWithin-up, ends_more, ends_least}
 use Rattle.path_tests.proofs.Stretches.{stretch_fails, stretch_clears}
@@ -18,7 +18,7 @@ loop-last-preserved g c =
     record {
       same = c.distance_between.ensures.same ∙ c.loop-last.invariant.same;
       passed = ends_more (FailsStretch (g.O.Oracle.graph c.args.oracle.now) c.args.epsilon.now c.args.trail.now) c.args.first c.loop-last.last c.loop-last.invariant.passed
-        (stretch_clears _ _ c.args.epsilon.now c.args.trail.now c.args.first c.loop-last.last _ _ _ c.loop-last.invariant.same c.in_ok-distance.ensures.answer c.length_between.ensures c.stretches.ensures.0 c.if-not-stretches.false);
+          (stretch_clears _ _ c.args.epsilon.now c.args.trail.now c.args.first c.loop-last.last _ _ _ c.loop-last.invariant.same c.in_ok-distance.ensures.answer c.length_between.ensures c.stretches.ensures.0 c.if-not-stretches.false);
       asks = AsksWithin-up _ _ (done + 1) _ (omega arith) (AsksWithin-both _ _ _ done 1 c.loop-last.invariant.asks c.distance_between.ensures.asks);
     }
 
