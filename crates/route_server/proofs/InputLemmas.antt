@@ -3,7 +3,8 @@ use Rattle.std.proofs.Common.{◌≡◌, ℕ, ◌<◌, true, false, Bool, List, 
 use Rattle.road_text.specs.declared.line_reader.LineReader.{LineReader}
 use Rattle.road_text.specs.declared.line_reader.Advance.TheVariants as advance
 use Rattle.road_text.specs.Reader.{held, line_of, budget, Steps, IsLongLine}
-use Rattle.road_text.proofs.BehindLemmas.{IsBehind, IsRead, IsOver, IsBroken, behind_whole, behind_long, read_last, read_long, read_end, over_spent, broken_failed}
+use Rattle.road_text.specs.Behind.{IsBehind, IsRead, IsOver, IsBroken}
+use Rattle.road_text.proofs.BehindLemmas.{behind_whole, behind_long, read_last, read_long, read_end, over_spent, broken_failed}
 use Rattle.route_server.specs.declared.lines.Asked.{Asked}
 use Rattle.route_server.specs.declared.lines.Asked.TheVariants.{Best, Other}
 use Rattle.route_server.specs.declared.input.NextLine.TheVariants as the

@@ -2,3 +2,4 @@ pub mod LineLemmas
 pub mod LongLines
 pub mod InputLemmas
 pub mod ServingLemmas
+pub mod AnsweringLemmas

@@ -7,7 +7,8 @@ use Rattle.road_io.proofs.ToldLemmas.{IfTold_then, IfTold_both, told_same}
 use Rattle.road_text.specs.declared.line_reader.LineReader.{LineReader}
 use Rattle.road_text.specs.Lines.{lines_of, whole_lines}
 use Rattle.road_text.specs.Reader.{held, budget, IsFresh}
-use Rattle.road_text.proofs.BehindLemmas.{IsBehind, IsBehind-fresh, IsRead, IsOver, IsBroken}
+use Rattle.road_text.specs.Behind.{IsBehind, IsRead, IsOver, IsBroken}
+use Rattle.road_text.proofs.BehindLemmas.{IsBehind-fresh}
 use Rattle.route_server.specs.declared.lines.Asked.{Asked}
 use Rattle.route_server.specs.declared.input.NextLine.TheVariants as next
 use Rattle.route_server.specs.declared.serve.Served.TheVariants as served
