@@ -24,7 +24,7 @@ use Rattle.dimacs_reader.specs.Gathering.{Gathers, GathersAll}
 use Rattle.dimacs_reader.specs.Reads.{ReadsGraph, IsCutShort}
 use Rattle.dimacs_reader.proofs.GrLemmas.{first_fault-push, first_fault-found}
 
-gr_text-short : (text : List ℕ) → length text ≤ MAX_FILE → gr_text text ≡ graph_of (lines_of text)
+pub gr_text-short : (text : List ℕ) → length text ≤ MAX_FILE → gr_text text ≡ graph_of (lines_of text)
 unfolding gr_text
 gr_text-short text short = rw (le-leb (length text) MAX_FILE short) refl
 
@@ -48,7 +48,7 @@ graph_of-end : (lines : List (List ℕ)) (kind : GraphKind) → first_fault [] l
 unfolding graph_of
 graph_of-end lines kind e f = rw (e, f) refl
 
-graph_of-graph : (lines : List (List ℕ)) (graph : Graph) → first_fault [] lines ≡ None → end_fault lines ≡ None → graph.vertices ≡ vertices_of (problem_in lines) → graph.arcs ≡ arcs_in lines → graph_of lines ≡ Ok graph
+pub graph_of-graph : (lines : List (List ℕ)) (graph : Graph) → first_fault [] lines ≡ None → end_fault lines ≡ None → graph.vertices ≡ vertices_of (problem_in lines) → graph.arcs ≡ arcs_in lines → graph_of lines ≡ Ok graph
 unfolding graph_of
 graph_of-graph lines graph e f v a = rw (e, f, ← v, ← a) refl
 
