@@ -1,27 +1,13 @@
--- How far a text has been read, and what each step of a reader makes of it.
---   IsBehind most spare text rest before   the text goes on with this rest behind the lines before, which all
---                                          have their line feeds; of most bytes the lines to come may take spare
---   IsLongLine                             a line that the reader didn't show
--- A text and its rest are what a source tells, with what the reader holds.
+-- What each step of a reader makes of how far a text has been read.
 use Rattle.std.proofs.Common.{◌≡◌, ℕ, ◌+◌, ◌-◌, ◌<◌, ◌≤◌, true, false, List, [], ◌∷◌, ◌++◌, length, drop, take, Option, Some, None, refl, sym, ap, ◌∙◌, arith, append_assoc, subst}
 use Rattle.std.proofs.lemmas.List.{append-nil, length-append, take_at}
 use Rattle.road_text.specs.declared.line_reader.LineReader.{LineReader}
 use Rattle.road_text.specs.declared.line_reader.Advance.TheVariants.{Whole, Last, Long, End, Spent, Failed}
 use Rattle.road_text.specs.Lines.{lines_of, whole_lines, without_return, HasNoFeed}
 use Rattle.road_text.specs.Fields.{first_byte}
-use Rattle.road_text.specs.Reader.{held, line_of, budget, IsFresh, IsLine, IsLastLine, Steps}
-use Rattle.road_text.proofs.LineLemmas.{lines_of-line, lines_of-last, lines_of-nil, whole_lines-line, whole_lines-none, IsFirstOf, first_byte-without_return}
-
-pub record IsBehind (most spare : ℕ) (text rest : List ℕ) (before : List (List ℕ)) : Type 0 where
-  pub given : List ℕ
-  pub is : text ≡ given ++ rest
-  pub lines : (more : List ℕ) → lines_of (given ++ more) ≡ before ++ lines_of more
-  pub whole : (more : List ℕ) → whole_lines (given ++ more) ≡ before ++ whole_lines more
-  pub count : length given + spare ≡ most
-
-pub record IsLongLine (longest : ℕ) (line : List ℕ) (first : Option ℕ) : Type 0 where
-  pub long : longest < length line
-  pub first_is : IsFirstOf first (first_byte line)
+use Rattle.road_text.specs.Reader.{held, line_of, budget, IsFresh, IsLine, IsLastLine, IsFirstOf, IsLongLine, Steps}
+use Rattle.road_text.specs.Behind.{IsBehind, IsRead, IsBroken, IsOver}
+use Rattle.road_text.proofs.LineLemmas.{lines_of-line, lines_of-last, lines_of-nil, whole_lines-line, whole_lines-none, first_byte-without_return}
 
 -- nothing was read
 pub IsBehind-start : (most : ℕ) (text : List ℕ) → IsBehind most most text text []
@@ -57,11 +43,6 @@ IsBehind-line most spare new text rest raw behind before at' line count =
       count = (let e = at'.count in omega (arith, length-append given (raw ++ 10 ∷ []), length-append raw (10 ∷ [])));
     }
 
--- the whole text was read, and these are its lines
-pub record IsRead (most : ℕ) (text : List ℕ) (all : List (List ℕ)) : Type 0 where
-  pub lines : lines_of text ≡ all
-  pub short : length text ≤ most
-
 pub IsRead-end : (most spare : ℕ) (text rest : List ℕ) (before : List (List ℕ)) → IsBehind most spare text rest before → rest ≡ [] → IsRead most text before
 IsRead-end most spare text rest before at' none = record {
   lines = ap lines_of (at'.is ∙ ap (λ (r : List ℕ). at'.given ++ r) none) ∙ at'.lines [] ∙ ap (λ (ls : List (List ℕ)). before ++ ls) lines_of-nil ∙ append-nil before;
@@ -73,17 +54,6 @@ IsRead-last most spare new text rest raw behind before at' line count = record {
   lines = ap lines_of (at'.is ∙ ap (λ (r : List ℕ). at'.given ++ r) line.is) ∙ at'.lines raw ∙ ap (λ (ls : List (List ℕ)). before ++ ls) (lines_of-last raw line.no_feed line.some);
   short = (let e = at'.count in omega (arith, ap length at'.is, length-append at'.given rest, ap length line.is));
 }
-
--- a read failed: these bytes were taken, and their whole lines are the lines before
-pub record IsBroken (text rest : List ℕ) (before : List (List ℕ)) : Type 0 where
-  pub taken : List ℕ
-  pub is : text ≡ taken ++ rest
-  pub whole : whole_lines taken ≡ before
-
--- there are more bytes than the lines may take, and the lines that end among those are the lines before
-pub record IsOver (most : ℕ) (text : List ℕ) (before : List (List ℕ)) : Type 0 where
-  pub long : most < length text
-  pub whole : whole_lines (take most text) ≡ before
 
 cut_whole : (most spare : ℕ) (text rest raw : List ℕ) (before : List (List ℕ)) (at' : IsBehind most spare text rest before) → HasNoFeed raw → whole_lines (at'.given ++ raw) ≡ before
 cut_whole most spare text rest raw before at' none =

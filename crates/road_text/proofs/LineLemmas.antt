@@ -10,6 +10,7 @@ use Rattle.std.proofs.lemmas.Bool.{eq-eqb, eqb-true, cases_eq, cases_lt}
 use Rattle.road_text.specs.Filling.{IsFeedAt}
 use Rattle.road_text.specs.Fields.{first_byte, or_first}
 use Rattle.road_text.proofs.FieldLemmas.{first_byte-append, first_byte-stop}
+use Rattle.road_text.specs.Reader.{IsFirstOf}
 use Rattle.road_text.specs.Lines.{raw_lines, whole_raw_lines, onto_whole, without_return, lines_of, whole_lines, HasNoFeed}
 
 pub raw_lines-line : (raw rest : List ℕ) → HasNoFeed raw → raw_lines (raw ++ 10 ∷ rest) ≡ raw ∷ raw_lines rest
@@ -115,10 +116,6 @@ without_return-length raw =
 pub feed-parts : (bytes : List ℕ) (k : ℕ) → IsFeedAt bytes k → bytes ≡ take k bytes ++ 10 ∷ drop (k + 1) bytes
 feed-parts bytes k at' =
     sym (take-append-drop k bytes) ∙ ap (λ (r : List ℕ). take k bytes ++ r) (drop_more bytes k 0 at'.within ∙ ap (λ (b : ℕ). b ∷ drop (k + 1) bytes) at'.feed)
-
--- a dropped carriage return is the first byte that isn't blank only of a line that has no other
-pub record IsFirstOf (raw_first line_first : Option ℕ) : Type 0 where
-  pub cases : (raw_first ≡ line_first) ⊎ ((raw_first ≡ Some 13) × (line_first ≡ None))
 
 or_return : (first : Option ℕ) → IsFirstOf (or_first first (Some 13)) first
 or_return None = record { cases = inr (refl, refl) }

@@ -75,7 +75,7 @@ pub struct LineReader {
 }
 
 impl LineReader {
-    ghost use Rattle.road_text.specs.Reader.{held, line_of, budget, IsFresh, IsLine, HasTaken, Steps, GoesOn};
+    ghost use Rattle.road_text.specs.Reader.{held, line_of, budget, limit_of, IsFresh, IsLine, HasTaken, Steps, GoesOn, IsShown};
     ghost use Rattle.road_text.specs.Filling.{IsFeedAt, IsSameStock, HandsOut, IsKept, Grows, Gives, Finishes};
 
     /// A reader that shows lines of up to `longest` bytes, their ends not counted, and lets its
@@ -242,7 +242,8 @@ impl LineReader {
         ensures steps { IfTold (S.left source.old) (S.left source.new)
             (λ rest after. Steps self.old self.new (held self.old ++ rest) after result) }
         ensures falls { GoesOn result → budget self.new < budget self.old }
-        ensures longest { self.new.longest ≡ self.old.longest }
+        ensures limit { limit_of self.new ≡ limit_of self.old }
+        ensures short { IsShown result → length (line_of self.new) ≤ limit_of self.new }
         ensures count { S.faults source.old ≤ S.faults source.new }
         ensures cause { result ≡ Advance.Failed
             → HasRisen (S.faults source.old) (S.faults source.new) }
@@ -280,7 +281,8 @@ impl LineReader {
             (λ rest after. Steps self.old self.new (held self.old ++ rest) after result) }
         // A caller's loop ends, since its lines take up what the source may give.
         ensures falls { GoesOn result → budget self.new < budget self.old }
-        ensures longest { self.new.longest ≡ self.old.longest }
+        ensures limit { limit_of self.new ≡ limit_of self.old }
+        ensures short { IsShown result → length (line_of self.new) ≤ limit_of self.new }
         ensures count { S.faults source.old ≤ S.faults source.new }
         ensures cause { result ≡ Advance.Failed
             → HasRisen (S.faults source.old) (S.faults source.new) }

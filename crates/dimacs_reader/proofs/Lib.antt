@@ -1,0 +1,4 @@
+pub mod JudgeLemmas
+pub mod GrLemmas
+pub mod BuilderLemmas
+pub mod ReadLemmas

@@ -1,0 +1,5 @@
+pub mod Gr
+pub mod Judging
+pub mod Building
+pub mod Reads
+pub mod Gathering
