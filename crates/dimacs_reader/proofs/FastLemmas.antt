@@ -90,10 +90,10 @@ AreArcFields-from line tail head len a b c two first second t at' h bt l past =
       second = between (a + 1) b line;
       third = between (b + 1) c line;
       fields = cut0 ∙ ap (λ (w : List ℕ). w ∷ fields_of (drop 1 line)) word
-        ∙ ap (λ (fs : List (List ℕ)). codes "a" ∷ fs) (sym step0 ∙ t.field
-        ∙ ap (λ (fs : List (List ℕ)). between 2 a line ∷ fs) (sym step1 ∙ h.field
-        ∙ ap (λ (fs : List (List ℕ)). between (a + 1) b line ∷ fs) (sym step2 ∙ l.field
-        ∙ ap (λ (fs : List (List ℕ)). between (b + 1) c line ∷ fs) last)));
+          ∙ ap (λ (fs : List (List ℕ)). codes "a" ∷ fs) (sym step0 ∙ t.field
+          ∙ ap (λ (fs : List (List ℕ)). between 2 a line ∷ fs) (sym step1 ∙ h.field
+          ∙ ap (λ (fs : List (List ℕ)). between (a + 1) b line ∷ fs) (sym step2 ∙ l.field
+          ∙ ap (λ (fs : List (List ℕ)). between (b + 1) c line ∷ fs) last)));
       tail_is = t.number;
       head_is = h.number;
       length_is = l.number;
