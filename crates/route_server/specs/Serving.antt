@@ -1,6 +1,7 @@
 -- What a run over request lines writes.
+--   usual s t                  the query with the ratios 4/5, 1/4 and 1/4
 --   IsReply g line bytes       the reply to a line, in version 1 of the graph: where both vertices are there the
---                              optimum, or that there is no path; else the error
+--                              optimum or the whole answer, or that there is no path; else the error
 --   IsReplies g lines bytes    the replies to the lines, one behind another
 --   Stops g text rest out now status   how a run over the lines of a text may end: rest is what is left to read,
 --                              out what stood written before, now what stands written
@@ -11,15 +12,20 @@
 --     NoMemory    the replies to some of its first lines
 use Rattle.std.specs.Prelude.{◌≡◌, ◌<◌, ◌≤◌, ◌&&◌, ℕ, Bool, List, [], ◌∷◌, ◌++◌, Option, Some, None, length, take, nat_le, MatchBool}
 use Rattle.road_model.specs.declared.answer.Optimum.{Optimum}
+use Rattle.road_model.specs.declared.answer.Plan.{Plan}
+use Rattle.road_model.specs.declared.answer.Plan.TheVariants.{NoPath, Found}
+use Rattle.road_model.specs.declared.answer.Query.{Query}
+use Rattle.road_model.specs.Answers.{IsAnswer}
+use Rattle.road_model.specs.Fraction.{Fraction}
 use Rattle.road_model.specs.Graph.{Graph}
 use Rattle.road_model.specs.Canonical.{IsOptimum}
 use Rattle.road_text.specs.Lines.{lines_of, whole_lines}
 use Rattle.route_server.specs.declared.lines.Asked.{Asked}
-use Rattle.route_server.specs.declared.lines.Asked.TheVariants.{Best, Other}
+use Rattle.route_server.specs.declared.lines.Asked.TheVariants.{Best, Route, Other}
 use Rattle.route_server.specs.declared.status.Status.{Status}
 use Rattle.route_server.specs.declared.status.Status.TheVariants.{Done, Usage, GraphRefused, ReadFault, WriteFault, NoMemory, InputLong}
 use Rattle.route_server.specs.Lines.{asked_of, most_input}
-use Rattle.route_server.specs.Replies.{best_text, none_text, vertex_text, syntax_text}
+use Rattle.route_server.specs.Replies.{best_text, plan_text, none_text, vertex_text, syntax_text}
 
 abbrev pub is_vertex : ℕ → ℕ → Bool
 is_vertex n v = nat_le 1 v && nat_le v n
@@ -33,10 +39,27 @@ pub record IsBestReply (g : Graph) (s t : ℕ) (bytes : List ℕ) : Type 0 where
   pub is : IsOptimum g s t optimum
   pub text : bytes ≡ best_reply optimum
 
+abbrev pub ratio : ℕ → ℕ → Fraction
+ratio num den = record { num = num; den = den }
+
+abbrev pub usual : ℕ → ℕ → Query
+usual s t = record { from = s; to = t; gamma = ratio 4 5; alpha = ratio 1 4; epsilon = ratio 1 4 }
+
+abbrev pub plan_reply : Plan → List ℕ
+plan_reply NoPath = none_text 1
+plan_reply (Found optimum others) = plan_text 1 optimum others
+
+pub record IsRouteReply (g : Graph) (s t : ℕ) (bytes : List ℕ) : Type 0 where
+  pub plan : Plan
+  pub is : IsAnswer g (usual s t) plan
+  pub text : bytes ≡ plan_reply plan
+
 abbrev pub IsReplyTo : Graph → Asked → List ℕ → Type 0
 IsReplyTo g Other bytes = bytes ≡ syntax_text
 IsReplyTo g (Best s t) bytes =
     MatchBool (is_vertex g.vertices s && is_vertex g.vertices t) (IsBestReply g s t bytes) (bytes ≡ vertex_text)
+IsReplyTo g (Route s t) bytes =
+    MatchBool (is_vertex g.vertices s && is_vertex g.vertices t) (IsRouteReply g s t bytes) (bytes ≡ vertex_text)
 
 abbrev pub IsReply : Graph → List ℕ → List ℕ → Type 0
 IsReply g line bytes = IsReplyTo g (asked_of line) bytes

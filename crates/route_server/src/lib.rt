@@ -8,6 +8,7 @@ mod load;
 mod replies;
 mod serve;
 mod status;
+mod usual;
 mod words;
 
 pub use command::run;
