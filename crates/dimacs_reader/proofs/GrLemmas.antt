@@ -46,7 +46,7 @@ pub first_fault-nil : (before : List (List ℕ)) → first_fault before [] ≡ N
 unfolding first_fault
 first_fault-nil before = refl
 
-first_fault-cons : (before lines : List (List ℕ)) (line : List ℕ) → first_fault before (line ∷ lines) ≡ or_later before (fault_of before line) (first_fault (before ++ line ∷ []) lines)
+pub first_fault-cons : (before lines : List (List ℕ)) (line : List ℕ) → first_fault before (line ∷ lines) ≡ or_later before (fault_of before line) (first_fault (before ++ line ∷ []) lines)
 unfolding first_fault
 first_fault-cons before lines line = refl
 
@@ -76,3 +76,9 @@ first_fault-found before more line kind clean found =
     ap (first_fault []) (append_assoc before (line ∷ []) more)
     ∙ first_fault-append [] before (line ∷ more) ∙ ap (λ (o : Option GraphFault). option_or o (first_fault before (line ∷ more))) clean
     ∙ first_fault-cons before more line ∙ ap (λ (k : Option GraphKind). or_later before k (first_fault (before ++ line ∷ []) more)) found
+
+-- the fault of a line behind what the lines before come to
+pub fault_at_state : (before : List (List ℕ)) (line : List ℕ) (problem : Option Problem) (count : ℕ) → problem_in before ≡ problem → length (arcs_in before) ≡ count → line_fault problem count line ≡ None → fault_of before line ≡ None
+unfolding fault_of
+fault_at_state before line problem count p n clean =
+    ap (λ (o : Option Problem). line_fault o (length (arcs_in before)) line) p ∙ ap (λ (k : ℕ). line_fault problem k line) n ∙ clean

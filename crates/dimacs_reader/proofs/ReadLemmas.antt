@@ -24,7 +24,7 @@ use Rattle.dimacs_reader.specs.Gathering.{Gathers, GathersAll}
 use Rattle.dimacs_reader.specs.Reads.{ReadsGraph, IsCutShort}
 use Rattle.dimacs_reader.proofs.GrLemmas.{first_fault-push, first_fault-found}
 
-gr_text-short : (text : List ℕ) → length text ≤ MAX_FILE → gr_text text ≡ graph_of (lines_of text)
+pub gr_text-short : (text : List ℕ) → length text ≤ MAX_FILE → gr_text text ≡ graph_of (lines_of text)
 unfolding gr_text
 gr_text-short text short = rw (le-leb (length text) MAX_FILE short) refl
 
@@ -48,7 +48,7 @@ graph_of-end : (lines : List (List ℕ)) (kind : GraphKind) → first_fault [] l
 unfolding graph_of
 graph_of-end lines kind e f = rw (e, f) refl
 
-graph_of-graph : (lines : List (List ℕ)) (graph : Graph) → first_fault [] lines ≡ None → end_fault lines ≡ None → graph.vertices ≡ vertices_of (problem_in lines) → graph.arcs ≡ arcs_in lines → graph_of lines ≡ Ok graph
+pub graph_of-graph : (lines : List (List ℕ)) (graph : Graph) → first_fault [] lines ≡ None → end_fault lines ≡ None → graph.vertices ≡ vertices_of (problem_in lines) → graph.arcs ≡ arcs_in lines → graph_of lines ≡ Ok graph
 unfolding graph_of
 graph_of-graph lines graph e f v a = rw (e, f, ← v, ← a) refl
 
@@ -60,27 +60,27 @@ pub reads_fault : (spare : ℕ) (text rest : List ℕ) (before : List (List ℕ)
 reads_fault spare text rest before line kind at' clean found =
     let upto : List ℕ = at'.given in
     ⊎_elim
-      (λ (long : MAX_FILE < length text).
-        let few : length upto ≤ MAX_FILE = (let e = at'.count in omega arith) in
-        let cut : take MAX_FILE text ≡ upto ++ take (MAX_FILE - length upto) rest =
-          ap (take MAX_FILE) at'.is ∙ take-front upto rest MAX_FILE few in
-        gr_text-long text long
-        ∙ long_text-fault (whole_lines (take MAX_FILE text)) (fault_at before kind)
-          (ap (λ (t : List ℕ). first_fault [] (whole_lines t)) cut ∙ ap (first_fault []) (at'.whole (take (MAX_FILE - length upto) rest))
-           ∙ first_fault-found before (whole_lines (take (MAX_FILE - length upto) rest)) line kind clean found))
-      (λ (short : length text ≤ MAX_FILE).
-        gr_text-short text short
-        ∙ graph_of-fault (lines_of text) (fault_at before kind)
-          (ap (λ (t : List ℕ). first_fault [] (lines_of t)) at'.is ∙ ap (first_fault []) (at'.lines rest)
-           ∙ first_fault-found before (lines_of rest) line kind clean found))
-      (cases_lt MAX_FILE (length text))
+    (λ (long : MAX_FILE < length text).
+    let few : length upto ≤ MAX_FILE = (let e = at'.count in omega arith) in
+    let cut : take MAX_FILE text ≡ upto ++ take (MAX_FILE - length upto) rest =
+    ap (take MAX_FILE) at'.is ∙ take-front upto rest MAX_FILE few in
+    gr_text-long text long
+    ∙ long_text-fault (whole_lines (take MAX_FILE text)) (fault_at before kind)
+    (ap (λ (t : List ℕ). first_fault [] (whole_lines t)) cut ∙ ap (first_fault []) (at'.whole (take (MAX_FILE - length upto) rest))
+    ∙ first_fault-found before (whole_lines (take (MAX_FILE - length upto) rest)) line kind clean found))
+    (λ (short : length text ≤ MAX_FILE).
+    gr_text-short text short
+    ∙ graph_of-fault (lines_of text) (fault_at before kind)
+    (ap (λ (t : List ℕ). first_fault [] (lines_of t)) at'.is ∙ ap (first_fault []) (at'.lines rest)
+    ∙ first_fault-found before (lines_of rest) line kind clean found))
+    (cases_lt MAX_FILE (length text))
 
 -- a fault of the last line, which has none
 pub reads_last_fault : (text : List ℕ) (before : List (List ℕ)) (line : List ℕ) (kind : GraphKind) → IsRead MAX_FILE text (before ++ line ∷ []) → first_fault [] before ≡ None → fault_of before line ≡ Some kind → gr_text text ≡ Err (fault_at before kind)
 reads_last_fault text before line kind all clean found =
     gr_text-short text all.short
     ∙ graph_of-fault (lines_of text) (fault_at before kind)
-      (ap (first_fault []) (all.lines ∙ sym (append-nil (before ++ line ∷ []))) ∙ first_fault-found before [] line kind clean found)
+    (ap (first_fault []) (all.lines ∙ sym (append-nil (before ++ line ∷ []))) ∙ first_fault-found before [] line kind clean found)
 
 -- the end of the file
 pub reads_end : (text rest : List ℕ) (all : List (List ℕ)) (answer : Result Graph GraphError) → IsRead MAX_FILE text all → first_fault [] all ≡ None → Ends all answer → ReadsGraph text rest answer

@@ -3,3 +3,6 @@ pub mod Judging
 pub mod Building
 pub mod Reads
 pub mod Gathering
+pub mod Fast
+pub mod Text
+pub mod Pending

@@ -1,11 +1,13 @@
 //! One line, judged behind what came before it.
 
-ghost use Rattle.std.specs.Prelude.{ℕ, ◌≡◌, ◌≢◌, ◌<◌, ◌≤◌, ◌^◌, [], ◌∷◌, length, drop, codes, MatchOption};
+ghost use Rattle.std.specs.Prelude.{ℕ, List, Some, ◌≡◌, ◌≢◌, ◌<◌, ◌≤◌, ◌^◌, [], ◌∷◌, length, drop, codes, MatchOption};
 ghost use Rattle.road_text.specs.Fields.{fields_of};
+ghost use Rattle.road_text.specs.Numbers.{number_of};
 ghost use Rattle.dimacs_reader.specs.declared.line.TheConstants.{MAX_LINE};
 ghost use Rattle.dimacs_reader.specs.Gr.{is_byte};
 ghost use Rattle.dimacs_reader.specs.Judging.{Judges, JudgesFields, JudgesRow};
 
+use crate::fast::arc_numbers;
 use crate::fault::GraphKind;
 use crate::line::{Judged, Problem};
 use road_model::{ArcRow, MAX_ARCS, MAX_LENGTH, MAX_VERTICES, Vertex};
@@ -83,8 +85,7 @@ fn judge_arc(line: &[u8], at: usize, problem: Option<Problem>, count: usize) -> 
     let Some((tail, head, length)) = values(line, at) else {
         return Judged::Wrong(GraphKind::BadLine);
     };
-    let (Some(tail), Some(head), Some(length)) = (number(tail), number(head), number(length))
-    else {
+    let (Some(tail), Some(head), Some(length)) = (number(tail), number(head), number(length)) else {
         return Judged::Wrong(GraphKind::BadNumber);
     };
     judge_row(vertices as u64, tail, head, length)
@@ -136,11 +137,36 @@ pub(crate) fn begins_comment(first: Option<u8>) -> bool
     first == Some(b'c')
 }
 
+/// An arc line by its three numbers.
+#[inline]
+fn judge_numbers(
+    problem: Option<Problem>,
+    count: usize,
+    tail: u64,
+    head: u64,
+    length: u64,
+) -> Judged
+    ensures { (first second third : List ℕ) → number_of first ≡ Some tail
+        → number_of second ≡ Some head → number_of third ≡ Some length
+        → JudgesFields problem count (codes "a" ∷ first ∷ second ∷ third ∷ []) result }
+{
+    let Some(Problem { vertices, arcs }) = problem else {
+        return Judged::Wrong(GraphKind::NoProblem);
+    };
+    if arcs as usize <= count {
+        return Judged::Wrong(GraphKind::TooManyArcs);
+    }
+    judge_row(vertices as u64, tail, head, length)
+}
+
 /// Judges one line behind a problem and so many arcs.
 pub(crate) fn judge(line: &[u8], problem: Option<Problem>, count: usize) -> Judged
     requires { length line.now ≤ MAX_LINE }
     ensures { Judges problem count line.now result }
 {
+    if let Some((tail, head, length)) = arc_numbers(line) {
+        return judge_numbers(problem, count, tail, head, length);
+    }
     if begins_comment(first_byte(line)) {
         Judged::Nothing
     } else {

@@ -4,9 +4,8 @@
 
 use road_io::{FileShelf, StdinSource, StdoutSink};
 use route_server::{Status, run};
-use std::env;
-use std::io;
 use std::process::ExitCode;
+use std::{env, io};
 
 /// The words behind the program's name.
 fn words(rt: &HostRuntime) -> io::Result<Vec<String>> {

@@ -1,5 +1,5 @@
 -- What each step of a reader makes of how far a text has been read.
-use Rattle.std.proofs.Common.{◌≡◌, ℕ, ◌+◌, ◌-◌, ◌<◌, ◌≤◌, true, false, List, [], ◌∷◌, ◌++◌, length, drop, take, Option, Some, None, refl, sym, ap, ◌∙◌, arith, append_assoc, subst}
+use Rattle.std.proofs.Common.{◌≡◌, ℕ, ◌+◌, true, false, List, [], ◌∷◌, ◌++◌, length, take, Option, refl, sym, ap, ◌∙◌, arith, append_assoc, subst}
 use Rattle.std.proofs.lemmas.List.{append-nil, length-append, take_at}
 use Rattle.road_text.specs.declared.line_reader.LineReader.{LineReader}
 use Rattle.road_text.specs.declared.line_reader.Advance.TheVariants.{Whole, Last, Long, End, Spent, Failed}
@@ -28,18 +28,18 @@ pub IsBehind-line : (most spare new : ℕ) (text rest raw behind : List ℕ) (be
 IsBehind-line most spare new text rest raw behind before at' line count =
     let given : List ℕ = at'.given in
     let joined : (more : List ℕ) → (given ++ (raw ++ 10 ∷ [])) ++ more ≡ given ++ (raw ++ 10 ∷ more) =
-      λ more. append_assoc given (raw ++ 10 ∷ []) more ∙ ap (λ (r : List ℕ). given ++ r) (append_assoc raw (10 ∷ []) more) in
+    λ more. append_assoc given (raw ++ 10 ∷ []) more ∙ ap (λ (r : List ℕ). given ++ r) (append_assoc raw (10 ∷ []) more) in
     record {
       given = given ++ (raw ++ 10 ∷ []);
       is = at'.is ∙ ap (λ (r : List ℕ). given ++ r) line.is ∙ sym (joined behind);
       lines = λ more.
-        ap lines_of (joined more) ∙ at'.lines (raw ++ 10 ∷ more)
-        ∙ ap (λ (ls : List (List ℕ)). before ++ ls) (lines_of-line raw more line.no_feed)
-        ∙ sym (append_assoc before (without_return raw ∷ []) (lines_of more));
+          ap lines_of (joined more) ∙ at'.lines (raw ++ 10 ∷ more)
+          ∙ ap (λ (ls : List (List ℕ)). before ++ ls) (lines_of-line raw more line.no_feed)
+          ∙ sym (append_assoc before (without_return raw ∷ []) (lines_of more));
       whole = λ more.
-        ap whole_lines (joined more) ∙ at'.whole (raw ++ 10 ∷ more)
-        ∙ ap (λ (ls : List (List ℕ)). before ++ ls) (whole_lines-line raw more line.no_feed)
-        ∙ sym (append_assoc before (without_return raw ∷ []) (whole_lines more));
+          ap whole_lines (joined more) ∙ at'.whole (raw ++ 10 ∷ more)
+          ∙ ap (λ (ls : List (List ℕ)). before ++ ls) (whole_lines-line raw more line.no_feed)
+          ∙ sym (append_assoc before (without_return raw ∷ []) (whole_lines more));
       count = (let e = at'.count in omega (arith, length-append given (raw ++ 10 ∷ []), length-append raw (10 ∷ [])));
     }
 
@@ -64,26 +64,26 @@ cut_whole most spare text rest raw before at' none =
 pub behind_whole : (most : ℕ) (old new : LineReader) (text rest after : List ℕ) (before : List (List ℕ)) → IsBehind most (budget old) text (held old ++ rest) before → Steps old new (held old ++ rest) after Whole → IsBehind most (budget new) text (held new ++ after) (before ++ line_of new ∷ [])
 behind_whole most old new text rest after before at' (raw, line, taken, shows) =
     subst (λ (l : List ℕ). IsBehind most (budget new) text (held new ++ after) (before ++ l ∷ [])) (sym shows.is)
-      (IsBehind-line most (budget old) (budget new) text (held old ++ rest) raw (held new ++ after) before at' line taken.count)
+    (IsBehind-line most (budget old) (budget new) text (held old ++ rest) raw (held new ++ after) before at' line taken.count)
 
 pub behind_long : (most : ℕ) (old new : LineReader) (text rest after : List ℕ) (before : List (List ℕ)) (first : Option ℕ) → IsBehind most (budget old) text (held old ++ rest) before → Steps old new (held old ++ rest) after (Long true first) → (line : List ℕ) × IsLongLine old.longest line first × IsBehind most (budget new) text (held new ++ after) (before ++ line ∷ [])
 behind_long most old new text rest after before first at' (raw, line, taken, long) = (
-    without_return raw,
-    record { long = long.long; first_is = subst (λ (o : Option ℕ). IsFirstOf o (first_byte (without_return raw))) (sym long.first_is) (first_byte-without_return raw) },
-    IsBehind-line most (budget old) (budget new) text (held old ++ rest) raw (held new ++ after) before at' line taken.count,
-  )
+  without_return raw,
+  record { long = long.long; first_is = subst (λ (o : Option ℕ). IsFirstOf o (first_byte (without_return raw))) (sym long.first_is) (first_byte-without_return raw) },
+  IsBehind-line most (budget old) (budget new) text (held old ++ rest) raw (held new ++ after) before at' line taken.count,
+)
 
 pub read_last : (most : ℕ) (old new : LineReader) (text rest after : List ℕ) (before : List (List ℕ)) → IsBehind most (budget old) text (held old ++ rest) before → Steps old new (held old ++ rest) after Last → IsRead most text (before ++ line_of new ∷ [])
 read_last most old new text rest after before at' (raw, line, taken, shows) =
     subst (λ (l : List ℕ). IsRead most text (before ++ l ∷ [])) (sym shows.is)
-      (IsRead-last most (budget old) (budget new) text (held old ++ rest) raw (held new ++ after) before at' line taken.count)
+    (IsRead-last most (budget old) (budget new) text (held old ++ rest) raw (held new ++ after) before at' line taken.count)
 
 pub read_long : (most : ℕ) (old new : LineReader) (text rest after : List ℕ) (before : List (List ℕ)) (first : Option ℕ) → IsBehind most (budget old) text (held old ++ rest) before → Steps old new (held old ++ rest) after (Long false first) → (line : List ℕ) × IsLongLine old.longest line first × IsRead most text (before ++ line ∷ [])
 read_long most old new text rest after before first at' (raw, line, taken, long) = (
-    without_return raw,
-    record { long = long.long; first_is = subst (λ (o : Option ℕ). IsFirstOf o (first_byte (without_return raw))) (sym long.first_is) (first_byte-without_return raw) },
-    IsRead-last most (budget old) (budget new) text (held old ++ rest) raw (held new ++ after) before at' line taken.count,
-  )
+  without_return raw,
+  record { long = long.long; first_is = subst (λ (o : Option ℕ). IsFirstOf o (first_byte (without_return raw))) (sym long.first_is) (first_byte-without_return raw) },
+  IsRead-last most (budget old) (budget new) text (held old ++ rest) raw (held new ++ after) before at' line taken.count,
+)
 
 pub read_end : (most : ℕ) (old new : LineReader) (text rest after : List ℕ) (before : List (List ℕ)) → IsBehind most (budget old) text (held old ++ rest) before → Steps old new (held old ++ rest) after End → IsRead most text before
 read_end most old new text rest after before at' step = IsRead-end most (budget old) text (held old ++ rest) before at' step.0

@@ -10,7 +10,7 @@
 --   IsLongLine    the same, of the line
 --   Steps         what one step did to a text, which is what the reader held and what the source had left
 -- Of a source that tells nothing only its count of faults is known.
-use Rattle.std.specs.Prelude.{◌≡◌, ℕ, ◌+◌, ◌-◌, ◌<◌, ◌≤◌, Bool, true, false, List, [], ◌∷◌, ◌++◌, ◌⊎◌, Option, None, Some, length, slice_range}
+use Rattle.std.specs.Prelude.{◌≡◌, ℕ, ◌+◌, ◌-◌, ◌<◌, ◌≤◌, true, false, List, [], ◌∷◌, ◌++◌, ◌⊎◌, Option, None, Some, length, slice_range}
 use Rattle.road_text.specs.declared.line_reader.LineReader.{LineReader}
 use Rattle.road_text.specs.declared.line_reader.Advance.{Advance}
 use Rattle.road_text.specs.declared.line_reader.Advance.TheVariants.{Whole, Last, Long, End, Spent, Failed}

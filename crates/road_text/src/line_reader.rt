@@ -119,11 +119,7 @@ impl LineReader {
         }
         self.line_start = from;
         self.line_end = from + len;
-        if whole {
-            Advance::Whole
-        } else {
-            Advance::Last
-        }
+        if whole { Advance::Whole } else { Advance::Last }
     }
 
     /// Hands out the next raw line, whose line feed stands behind `size` of the held bytes.
@@ -253,7 +249,10 @@ impl LineReader {
         'pieces: loop {
             match self.fill(source) {
                 Fill::More => {}
-                Fill::End => return Advance::Long { whole: false, first },
+                Fill::End => return Advance::Long {
+                    whole: false,
+                    first,
+                },
                 Fill::Spent => return Advance::Spent,
                 Fill::Failed => return Advance::Failed,
             }

@@ -24,7 +24,7 @@ fault_unread : (r : Result Graph GraphFault) (text out : List ℕ) → AnswersGr
 fault_unread (Ok g) text out = record {
   taken = [];
   is = refl;
-  written = record { bytes = []; replies = subst (λ (ls : List (List ℕ)). IsReplies g ls []) (sym no_lines) refl; is = sym (append-nil out) }
+  written = record { bytes = []; replies = subst (λ (ls : List (List ℕ)). IsReplies g ls []) (sym no_lines) refl; is = sym (append-nil out) };
 }
 fault_unread (Err fault) text out = (tt, idle text out)
 

@@ -45,7 +45,7 @@ two_long rest h =
     ⊎_elim
     (λ (long : 19 < length (before_first is_space rest)). both_left (canonical_of (before_first is_space rest)) (canonical_of (after_first is_space rest)) (not_canonical (before_first is_space rest) long))
     (λ (short : length (before_first is_space rest) ≤ 19).
-      both_right (canonical_of (before_first is_space rest)) (canonical_of (after_first is_space rest)) (not_canonical (after_first is_space rest) (omega arith)))
+    both_right (canonical_of (before_first is_space rest)) (canonical_of (after_first is_space rest)) (not_canonical (after_first is_space rest) (omega arith)))
     (cases_lt 19 (length (before_first is_space rest)))
 
 best_none : (b : Bool) (two : Option (ℕ × ℕ)) → two ≡ None → cond b (best_of two) Other ≡ Other

@@ -25,8 +25,8 @@ fn answer<F: Shelf, S: Source, K: Sink>(
 ) -> Status
     ensures answers { IfSome (F.left shelf.old) (λ told.
         IfTold (S.left input.old) (S.left input.new) (λ text rest.
-            IfTold (K.written output.old) (K.written output.new) (λ out now.
-                AnswersFile (told.files name.now) text rest out now result))) }
+        IfTold (K.written output.old) (K.written output.new) (λ out now.
+        AnswersFile (told.files name.now) text rest out now result))) }
     ensures known { result ≡ Status.Usage → ⊥ }
     ensures read_cause { result ≡ Status.ReadFault →
         HasRisen (F.faults shelf.old) (F.faults shelf.new) ⊎ HasRisen (S.faults input.old) (S.faults input.new) }
@@ -60,9 +60,9 @@ pub fn run<R: Threads + Sync, F: Shelf, S: Source, K: Sink>(
     // Over a shelf, an input and an output that tell their bytes, the bytes written are the replies.
     ensures answers { IfSome (file_of (map (λ w. string_bytes w) words.now)) (λ name.
         IfSome (F.left shelf.old) (λ told.
-            IfTold (S.left input.old) (S.left input.new) (λ text rest.
-                IfTold (K.written output.old) (K.written output.new) (λ out now.
-                    AnswersFile (told.files name) text rest out now result)))) }
+        IfTold (S.left input.old) (S.left input.new) (λ text rest.
+        IfTold (K.written output.old) (K.written output.new) (λ out now.
+        AnswersFile (told.files name) text rest out now result)))) }
 
     // Faults come from outside alone.
     ensures read_cause { result ≡ Status.ReadFault →

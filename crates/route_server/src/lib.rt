@@ -6,10 +6,12 @@ mod input;
 mod lines;
 mod load;
 mod replies;
-
 mod serve;
 mod status;
 mod words;
 
 pub use command::run;
 pub use status::Status;
+
+#[cfg(test)]
+mod tests;

@@ -4,7 +4,6 @@ ghost use Rattle.std.specs.Prelude.{◌≡◌, ◌++◌, OnOk, codes, decimal};
 ghost use Rattle.route_server.specs.Replies.{arcs_text, best_text, line_text, none_text, optimum_text};
 ghost use Rattle.route_server.specs.Serving.{IsReplyTo, is_vertex};
 
-
 use crate::lines::Asked;
 use canonical_trees::optimum;
 use forward_star::Star;

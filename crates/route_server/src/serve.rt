@@ -57,7 +57,7 @@ pub fn serve<S: Source, K: Sink>(
 ) -> Status
     ensures stops { IfTold (S.left input.old) (S.left input.new) (λ text rest.
         IfTold (K.written output.old) (K.written output.new) (λ out now.
-            Stops star.now text rest out now result)) }
+        Stops star.now text rest out now result)) }
     ensures known { result ≡ Status.Usage → ⊥ }
     ensures read_count { S.faults input.old ≤ S.faults input.new }
     ensures read_cause { result ≡ Status.ReadFault → HasRisen (S.faults input.old) (S.faults input.new) }

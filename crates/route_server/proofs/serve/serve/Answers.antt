@@ -3,11 +3,12 @@ use Rattle.route_server.proofs.ServingLemmas.{runs_more, ends_more_fault, ends_m
 use Rattle.route_server.proofs.serve.serve.Goals as goal
 
 pub lines-preserved : goal.lines-preserved
-lines-preserved g c =
-    (c.in-More.ensures.longest,
-     runs_more c.args.star.now c.lines.reader c.next_line.new.reader c.in-More.asked _ _ _ _ _ _ c.lines.invariant.1 c.in-More.ensures.goes c.in-Written.ensures.serves,
-     omega (arith, c.lines.invariant.2, c.in-More.ensures.count),
-     omega (arith, c.lines.invariant.3, c.in-Written.ensures.count))
+lines-preserved g c = (
+  c.in-More.ensures.longest,
+  runs_more c.args.star.now c.lines.reader c.next_line.new.reader c.in-More.asked _ _ _ _ _ _ c.lines.invariant.1 c.in-More.ensures.goes c.in-Written.ensures.serves,
+  omega (arith, c.lines.invariant.2, c.in-More.ensures.count),
+  omega (arith, c.lines.invariant.3, c.in-Written.ensures.count),
+)
 
 pub returns-in-WriteFault-clause-stops : goal.returns-in-WriteFault-clause-stops
 returns-in-WriteFault-clause-stops g c =

@@ -19,8 +19,7 @@ returns-then-len-problem-clause-ends c = λ lines after.
 pub returns-clause-ends : goal.returns-clause-ends
 returns-clause-ends c = λ lines after.
     let some : problem_in lines ≡ Some c.in-Some.problem = sym after.problem ∙ c.in-Some.is in
-    let full : c.in-Some.problem.arcs ≤ length (arcs_in lines) = omega (arith, c.if-len-problem.false, c.len.ensures, c.args.self.arcs.ok.0, ap length after.arcs) in
-    (
+    let full : c.in-Some.problem.arcs ≤ length (arcs_in lines) = omega (arith, c.if-len-problem.false, c.len.ensures, c.args.self.arcs.ok.0, ap length after.arcs) in (
       end_fault-full lines c.in-Some.problem some full,
       ap (λ (g : Graph). g.vertices) c.new.ensures ∙ sym (ap vertices_of some),
       ap (λ (g : Graph). g.arcs) c.new.ensures ∙ c.from_vec.ensures ∙ after.arcs,

@@ -3,7 +3,7 @@ use Rattle.road_model.specs.declared.rows.ArcRow.{ArcRow}
 use Rattle.road_model.specs.Graph.{Graph, step_at}
 use Rattle.forward_star.specs.Layout.{IsLaid}
 use Rattle.forward_star.proofs.Runs.{run_at-laid, map_seen}
-use Rattle.forward_star.proofs.star.StarNetwork.out.Goals as goal
+use Rattle.forward_star.proofs.star.Star.step_out.Goals as goal
 
 pub returns : goal.returns
 returns c =
