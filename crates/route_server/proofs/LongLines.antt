@@ -8,7 +8,7 @@ use Rattle.std.proofs.lemmas.Bool.Decides.{nat_tests}
 use Rattle.road_text.specs.Numbers.{canonical_of, number_of, is_number, has_leading_zero}
 use Rattle.route_server.specs.declared.lines.Asked.{Asked}
 use Rattle.route_server.specs.declared.lines.Asked.TheVariants.{Best, Other}
-use Rattle.route_server.specs.Lines.{is_space, both, two_of, best_of, asked_of}
+use Rattle.route_server.specs.Lines.{is_space, both, two_of, best_of, route_of, asked_of}
 
 long_digits : (f : List ℕ) → 19 < length f → leb (length f) 19 ≡ false
 long_digits f h = grind (arith, nat_tests)
@@ -48,11 +48,22 @@ two_long rest h =
     both_right (canonical_of (before_first is_space rest)) (canonical_of (after_first is_space rest)) (not_canonical (after_first is_space rest) (omega arith)))
     (cases_lt 19 (length (before_first is_space rest)))
 
-best_none : (b : Bool) (two : Option (ℕ × ℕ)) → two ≡ None → cond b (best_of two) Other ≡ Other
-best_none true two e = ap best_of e
-best_none false two e = refl
+best_none : (two : Option (ℕ × ℕ)) → two ≡ None → best_of two ≡ Other
+best_none two e = ap best_of e
+
+route_none : (two : Option (ℕ × ℕ)) → two ≡ None → route_of two ≡ Other
+route_none two e = ap route_of e
+
+-- whichever word it begins with
+chosen : (a b : Bool) (x y : Asked) → x ≡ Other → y ≡ Other → cond a x (cond b y Other) ≡ Other
+chosen true b x y e f = e
+chosen false true x y e f = f
+chosen false false x y e f = refl
 
 pub asked_long : (line : List ℕ) → 1024 < length line → asked_of line ≡ Other
 asked_long line h =
-    let rest : length (drop 8 line) ≡ length line - 8 = length-drop 8 line in
-    best_none (starts_with nat_eq line (codes "optimum ")) (two_of (drop 8 line)) (two_long (drop 8 line) (omega arith))
+    let eight : length (drop 8 line) ≡ length line - 8 = length-drop 8 line in
+    let six : length (drop 6 line) ≡ length line - 6 = length-drop 6 line in
+    chosen (starts_with nat_eq line (codes "optimum ")) (starts_with nat_eq line (codes "route ")) (best_of (two_of (drop 8 line))) (route_of (two_of (drop 6 line)))
+    (best_none (two_of (drop 8 line)) (two_long (drop 8 line) (omega arith)))
+    (route_none (two_of (drop 6 line)) (two_long (drop 6 line) (omega arith)))

@@ -73,7 +73,7 @@ fn push_part(out: &mut Vec<u8>, word: &[u8], number: u64) -> Result<(), AllocErr
 fn push_head(out: &mut Vec<u8>, route: &Route) -> Result<(), AllocError>
     ensures { OnOk result (out.new.items ≡ out.old.items ++ head_text route.now) }
 {
-    push_part(out, b"route via ", u64::from(route.via.number()))?;
+    push_part(out, b"route via ", route.via.number() as u64)?;
     push_part(out, b" length ", route.length)?;
     push_part(out, b" shared ", route.shared)?;
     Ok(())
