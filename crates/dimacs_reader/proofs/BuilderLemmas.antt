@@ -1,5 +1,5 @@
 -- How the gathering goes on over one line more.
-use Rattle.std.proofs.Common.{◌≡◌, ℕ, ◌+◌, ◌<◌, ◌≤◌, true, false, ⊎_elim, List, [], ◌∷◌, ◌++◌, length, Option, Some, None, refl, sym, ap, subst, ◌∙◌, arith}
+use Rattle.std.proofs.Common.{◌≡◌, ℕ, ◌+◌, ◌<◌, ◌≤◌, true, false, ⊎_elim, List, [], ◌∷◌, ◌++◌, length, Option, Some, None, refl, sym, ap, ◌∙◌}
 use Rattle.std.specs.List.{cons_option}
 use Rattle.std.specs.Option.{option_or}
 use Rattle.std.proofs.lemmas.Bool.{lt-ltb, le-ltb}
@@ -41,16 +41,15 @@ pub or_none : (o : Option Problem) → option_or o None ≡ o
 or_none None = refl
 or_none (Some p) = refl
 
-
 -- ---- a line that wasn't shown
 
 pub is_comment-long : (line : List ℕ) (first : Option ℕ) → IsFirstOf first (first_byte line) → is_comment line ≡ is_byte first 99
 unfolding is_comment
 is_comment-long line first h =
     ⊎_elim
-      (λ (e : first ≡ first_byte line). ap (λ (o : Option ℕ). is_byte o 99) (sym e))
-      (λ (e : (first ≡ Some 13) × (first_byte line ≡ None)). ap (λ (o : Option ℕ). is_byte o 99) e.1 ∙ sym (ap (λ (o : Option ℕ). is_byte o 99) e.0))
-      h.cases
+    (λ (e : first ≡ first_byte line). ap (λ (o : Option ℕ). is_byte o 99) (sym e))
+    (λ (e : (first ≡ Some 13) × (first_byte line ≡ None)). ap (λ (o : Option ℕ). is_byte o 99) e.1 ∙ sym (ap (λ (o : Option ℕ). is_byte o 99) e.0))
+    h.cases
 
 pub fault_of-long : (before : List (List ℕ)) (line : List ℕ) → is_comment line ≡ false → MAX_LINE < length line → fault_of before line ≡ Some LineLong
 unfolding fault_of line_fault

@@ -1,17 +1,15 @@
 -- What an arc line in its common form says.
-use Rattle.std.proofs.Common.{◌≡◌, ℕ, ◌+◌, ◌-◌, ◌*◌, ◌^◌, ◌<◌, ◌≤◌, Bool, true, false, ◌&&◌, List, [], ◌∷◌, ◌++◌, length, get_or, drop, take, codes, Option, Some, None, refl, sym, ap, subst, ◌∙◌, arith, rules}
-use Rattle.std.specs.List.{AllByRecursion, between}
-use Rattle.std.specs.Char.{is_ascii_digit, digit_value}
+use Rattle.std.proofs.Common.{◌≡◌, ℕ, ◌+◌, ◌-◌, ◌*◌, ◌^◌, ◌<◌, ◌≤◌, true, false, List, [], ◌∷◌, ◌++◌, length, get_or, drop, codes, Option, Some, refl, sym, ap, subst, ◌∙◌, arith}
+use Rattle.std.specs.List.{between}
+use Rattle.std.specs.Char.{is_ascii_digit}
 use Rattle.std.specs.Str.{all_ascii_digits}
-use Rattle.std.specs.Str.Parse.{AllDigits, digits_value}
+use Rattle.std.specs.Str.Parse.{digits_value}
 use Rattle.std.proofs.lemmas.Bool.{and_parts, and_from}
 use Rattle.std.proofs.lemmas.Bool.Decides.{nat_tests}
-use Rattle.std.proofs.lemmas.List.{drop_more, drop_all}
 use Rattle.std.proofs.lemmas.List.Edits.{between_more, between_none, length-between}
 use Rattle.std.proofs.lemmas.Int.Digits.{digits_value_push}
 use Rattle.std.proofs.lemmas.Str.Parse.{IsNumeralModel, numerals_by_value, tells_all_ascii_digits, digits_value_short}
 use Rattle.road_text.specs.Fields.{is_blank, fields_of, first_byte}
-use Rattle.road_text.specs.Numbers.{number_of}
 use Rattle.road_text.proofs.FieldLemmas.{Passes, fields_of-found, fields_of-passed, fields_of-past, first_byte-at}
 use Rattle.road_text.proofs.NumberLemmas.{number_of-digits, digit_value-is}
 use Rattle.dimacs_reader.specs.Gr.{is_comment, is_byte}
@@ -90,10 +88,10 @@ AreArcFields-from line tail head len a b c two first second t at' h bt l past =
       second = between (a + 1) b line;
       third = between (b + 1) c line;
       fields = cut0 ∙ ap (λ (w : List ℕ). w ∷ fields_of (drop 1 line)) word
-        ∙ ap (λ (fs : List (List ℕ)). codes "a" ∷ fs) (sym step0 ∙ t.field
-        ∙ ap (λ (fs : List (List ℕ)). between 2 a line ∷ fs) (sym step1 ∙ h.field
-        ∙ ap (λ (fs : List (List ℕ)). between (a + 1) b line ∷ fs) (sym step2 ∙ l.field
-        ∙ ap (λ (fs : List (List ℕ)). between (b + 1) c line ∷ fs) last)));
+          ∙ ap (λ (fs : List (List ℕ)). codes "a" ∷ fs) (sym step0 ∙ t.field
+          ∙ ap (λ (fs : List (List ℕ)). between 2 a line ∷ fs) (sym step1 ∙ h.field
+          ∙ ap (λ (fs : List (List ℕ)). between (a + 1) b line ∷ fs) (sym step2 ∙ l.field
+          ∙ ap (λ (fs : List (List ℕ)). between (b + 1) c line ∷ fs) last)));
       tail_is = t.number;
       head_is = h.number;
       length_is = l.number;

@@ -1,16 +1,15 @@
 -- What a text comes to, by how far it was read and what was gathered.
-use Rattle.std.proofs.Common.{◌≡◌, ℕ, ◌+◌, ◌-◌, ◌<◌, ◌≤◌, true, false, cond, List, [], ◌∷◌, ◌++◌, length, take, drop, Option, Some, None, Result, Ok, Err, refl, sym, ap, subst, ◌∙◌, arith, append_assoc, ⊎_elim}
-use Rattle.std.specs.Option.{option_or}
+use Rattle.std.proofs.Common.{◌≡◌, ℕ, ◌-◌, ◌<◌, ◌≤◌, true, false, List, [], ◌∷◌, ◌++◌, length, take, Option, Some, None, Result, Ok, Err, refl, sym, ap, subst, ◌∙◌, arith, ⊎_elim}
 use Rattle.std.proofs.Math.Seq.{take-append-add}
 use Rattle.std.proofs.lemmas.Bool.{le-leb, lt-leb, cases_lt}
-use Rattle.std.proofs.lemmas.List.{append-nil, length-append, take-append-drop}
+use Rattle.std.proofs.lemmas.List.{append-nil}
 use Rattle.road_model.specs.Graph.{Graph}
 use Rattle.road_text.specs.Lines.{lines_of, whole_lines}
 use Rattle.road_text.specs.declared.line_reader.LineReader.{LineReader}
 use Rattle.road_text.specs.declared.line_reader.Advance.TheVariants.{Whole, Last, Long, End, Spent, Failed}
 use Rattle.road_text.specs.Reader.{held, line_of, budget, limit_of, IsLongLine, Steps}
 use Rattle.road_text.specs.Behind.{IsBehind, IsRead, IsBroken, IsOver}
-use Rattle.road_text.proofs.BehindLemmas.{IsBehind-fresh, behind_whole, behind_long, read_last, read_long, read_end, over_spent, broken_failed}
+use Rattle.road_text.proofs.BehindLemmas.{behind_whole, behind_long, read_last, read_long, read_end, over_spent, broken_failed}
 use Rattle.dimacs_reader.specs.declared.fault.GraphKind.{GraphKind}
 use Rattle.dimacs_reader.specs.declared.fault.GraphKind.TheVariants.{FileLong}
 use Rattle.dimacs_reader.specs.declared.fault.GraphFault.{GraphFault}
@@ -18,8 +17,8 @@ use Rattle.dimacs_reader.specs.declared.fault.GraphError.{GraphError}
 use Rattle.dimacs_reader.specs.declared.fault.GraphError.TheVariants.{Refused, ReadFault, NoMemory}
 use Rattle.dimacs_reader.specs.declared.line.TheConstants.{MAX_LINE, MAX_FILE}
 use Rattle.dimacs_reader.specs.declared.builder.Builder.{Builder}
-use Rattle.dimacs_reader.specs.Gr.{problem_in, arcs_in, vertices_of, fault_of, fault_at, or_later, first_fault, end_fault, graph_or, graph_of, long_text, gr_text}
-use Rattle.dimacs_reader.specs.Building.{IsAfter, Adds, Ends}
+use Rattle.dimacs_reader.specs.Gr.{problem_in, arcs_in, vertices_of, fault_of, fault_at, first_fault, end_fault, graph_of, long_text, gr_text}
+use Rattle.dimacs_reader.specs.Building.{Adds, Ends}
 use Rattle.dimacs_reader.specs.Gathering.{Gathers, GathersAll}
 use Rattle.dimacs_reader.specs.Reads.{ReadsGraph, IsCutShort}
 use Rattle.dimacs_reader.proofs.GrLemmas.{first_fault-push, first_fault-found}
@@ -60,27 +59,27 @@ pub reads_fault : (spare : ℕ) (text rest : List ℕ) (before : List (List ℕ)
 reads_fault spare text rest before line kind at' clean found =
     let upto : List ℕ = at'.given in
     ⊎_elim
-      (λ (long : MAX_FILE < length text).
-        let few : length upto ≤ MAX_FILE = (let e = at'.count in omega arith) in
-        let cut : take MAX_FILE text ≡ upto ++ take (MAX_FILE - length upto) rest =
-          ap (take MAX_FILE) at'.is ∙ take-front upto rest MAX_FILE few in
-        gr_text-long text long
-        ∙ long_text-fault (whole_lines (take MAX_FILE text)) (fault_at before kind)
-          (ap (λ (t : List ℕ). first_fault [] (whole_lines t)) cut ∙ ap (first_fault []) (at'.whole (take (MAX_FILE - length upto) rest))
-           ∙ first_fault-found before (whole_lines (take (MAX_FILE - length upto) rest)) line kind clean found))
-      (λ (short : length text ≤ MAX_FILE).
-        gr_text-short text short
-        ∙ graph_of-fault (lines_of text) (fault_at before kind)
-          (ap (λ (t : List ℕ). first_fault [] (lines_of t)) at'.is ∙ ap (first_fault []) (at'.lines rest)
-           ∙ first_fault-found before (lines_of rest) line kind clean found))
-      (cases_lt MAX_FILE (length text))
+    (λ (long : MAX_FILE < length text).
+    let few : length upto ≤ MAX_FILE = (let e = at'.count in omega arith) in
+    let cut : take MAX_FILE text ≡ upto ++ take (MAX_FILE - length upto) rest =
+    ap (take MAX_FILE) at'.is ∙ take-front upto rest MAX_FILE few in
+    gr_text-long text long
+    ∙ long_text-fault (whole_lines (take MAX_FILE text)) (fault_at before kind)
+    (ap (λ (t : List ℕ). first_fault [] (whole_lines t)) cut ∙ ap (first_fault []) (at'.whole (take (MAX_FILE - length upto) rest))
+    ∙ first_fault-found before (whole_lines (take (MAX_FILE - length upto) rest)) line kind clean found))
+    (λ (short : length text ≤ MAX_FILE).
+    gr_text-short text short
+    ∙ graph_of-fault (lines_of text) (fault_at before kind)
+    (ap (λ (t : List ℕ). first_fault [] (lines_of t)) at'.is ∙ ap (first_fault []) (at'.lines rest)
+    ∙ first_fault-found before (lines_of rest) line kind clean found))
+    (cases_lt MAX_FILE (length text))
 
 -- a fault of the last line, which has none
 pub reads_last_fault : (text : List ℕ) (before : List (List ℕ)) (line : List ℕ) (kind : GraphKind) → IsRead MAX_FILE text (before ++ line ∷ []) → first_fault [] before ≡ None → fault_of before line ≡ Some kind → gr_text text ≡ Err (fault_at before kind)
 reads_last_fault text before line kind all clean found =
     gr_text-short text all.short
     ∙ graph_of-fault (lines_of text) (fault_at before kind)
-      (ap (first_fault []) (all.lines ∙ sym (append-nil (before ++ line ∷ []))) ∙ first_fault-found before [] line kind clean found)
+    (ap (first_fault []) (all.lines ∙ sym (append-nil (before ++ line ∷ []))) ∙ first_fault-found before [] line kind clean found)
 
 -- the end of the file
 pub reads_end : (text rest : List ℕ) (all : List (List ℕ)) (answer : Result Graph GraphError) → IsRead MAX_FILE text all → first_fault [] all ≡ None → Ends all answer → ReadsGraph text rest answer

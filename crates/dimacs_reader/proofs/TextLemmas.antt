@@ -1,34 +1,33 @@
 -- The canonical text of a graph is accepted as that graph.
-use Rattle.std.proofs.Common.{◌≡◌, ◌≢◌, ℕ, ◌+◌, ◌-◌, ◌*◌, ◌^◌, ◌<◌, ◌≤◌, Bool, true, false, ◌&&◌, zero, suc, List, [], ◌∷◌, ◌++◌, length, map, get_or, drop, take, codes, Option, Some, None, Result, Ok, Err, refl, sym, ap, subst, ◌∙◌, arith, append_assoc, lit<, lit≤}
+use Rattle.std.proofs.Common.{◌≡◌, ◌≢◌, ℕ, ◌+◌, ◌-◌, ◌*◌, ◌^◌, ◌<◌, ◌≤◌, true, false, zero, suc, List, [], ◌∷◌, ◌++◌, length, map, get_or, codes, Option, Some, None, Ok, refl, sym, ap, ◌∙◌, arith, append_assoc, lit<}
 use Rattle.std.specs.Prelude.{decimal}
 use Rattle.std.specs.List.{flat_map, cons_option, All, AllByRecursion}
 use Rattle.std.specs.Option.{option_or}
 use Rattle.std.specs.Char.{is_ascii_digit}
 use Rattle.std.specs.Str.{all_ascii_digits}
 use Rattle.std.specs.Str.Parse.{digits_value}
-use Rattle.std.proofs.lemmas.Bool.{and_parts, ne_eqb, lt-leb, le-leb, le-ltb, lt-ltb, eqb-false}
+use Rattle.std.proofs.lemmas.Bool.{and_parts, ne_eqb, lt-leb, le-ltb, eqb-false}
 use Rattle.std.proofs.lemmas.Bool.Decides.{nat_tests}
 use Rattle.std.proofs.lemmas.Fmt.{digits_decimal, digits_value-decimal, decimal_nonempty, length-decimal-le}
-use Rattle.std.proofs.lemmas.List.{append-nil, length-append, length-map, length_push, get_or-append_right, take_all}
+use Rattle.std.proofs.lemmas.List.{append-nil, length-append, length_push, get_or-append_right}
 use Rattle.std.proofs.lemmas.List.Elements.{All-head, All-tail}
 use Rattle.std.proofs.lemmas.Str.Parse.{IsNumeralModel, numerals_by_value, tells_all_ascii_digits}
 use Rattle.road_model.specs.declared.rows.ArcRow.{ArcRow}
 use Rattle.road_model.specs.declared.graph_file.TheConstants.{MAX_VERTICES, MAX_ARCS, MAX_LENGTH}
-use Rattle.road_model.specs.Graph.{Graph, IsArc, IsVertex}
+use Rattle.road_model.specs.Graph.{Graph, IsArc}
 use Rattle.road_model.specs.File.{IsWithinLimits}
 use Rattle.road_text.specs.Lines.{HasNoFeed, lines_of, without_return}
-use Rattle.road_text.specs.Fields.{is_blank, fields_of, first_byte}
+use Rattle.road_text.specs.Fields.{is_blank, fields_of}
 use Rattle.road_text.specs.Numbers.{number_of}
 use Rattle.road_text.proofs.LineLemmas.{HasNoFeed-append, lines_of-line, lines_of-nil, without_return-plain}
 use Rattle.road_text.proofs.FieldLemmas.{Passes, fields_of-field, fields_of-last, first_byte-stop}
 use Rattle.road_text.proofs.NumberLemmas.{number_of-digits}
 use Rattle.dimacs_reader.specs.declared.fault.GraphKind.{GraphKind}
-use Rattle.dimacs_reader.specs.declared.fault.GraphFault.{GraphFault}
 use Rattle.dimacs_reader.specs.declared.line.Problem.{Problem}
-use Rattle.dimacs_reader.specs.declared.line.TheConstants.{MAX_LINE, MAX_FILE}
-use Rattle.dimacs_reader.specs.Gr.{is_comment, is_byte, vertices_of, problem_of, arc_of, problem_in, arcs_in, problem_from, arc_from, problem_fault, arc_fault, fields_fault, line_fault, fault_of, fault_at, or_later, first_fault, end_fault, graph_of, gr_text}
+use Rattle.dimacs_reader.specs.declared.line.TheConstants.{MAX_FILE}
+use Rattle.dimacs_reader.specs.Gr.{is_comment, is_byte, vertices_of, problem_of, arc_of, problem_in, arcs_in, fields_fault, fault_of, or_later, first_fault, end_fault, graph_of, gr_text}
 use Rattle.dimacs_reader.specs.declared.line.Judged.TheVariants.{NewProblem, NewArc}
-use Rattle.dimacs_reader.specs.Judging.{Judges, FitsProblem, IsProblem}
+use Rattle.dimacs_reader.specs.Judging.{Judges}
 use Rattle.dimacs_reader.specs.Text.{problem_text, row_text, graph_text}
 use Rattle.dimacs_reader.proofs.JudgeLemmas.{Judges-cut}
 use Rattle.dimacs_reader.proofs.GrLemmas.{problem_in-nil, arcs_in-nil, problem_in-push, arcs_in-push, first_fault-nil, first_fault-cons, fault_at_state}
@@ -72,7 +71,7 @@ ends_in_number front n fits =
     let some : 0 < length (decimal n) = decimal_nonempty n fits in
     let len = length-append front (decimal n) in
     let last : get_or (front ++ decimal n) (length (front ++ decimal n) - 1) 0 ≡ get_or (decimal n) (length (front ++ decimal n) - 1 - length front) 0 =
-      get_or-append_right front (decimal n) (length front) (length (front ++ decimal n) - 1) 0 refl (omega arith) in
+    get_or-append_right front (decimal n) (length front) (length (front ++ decimal n) - 1) 0 refl (omega arith) in
     without_return-plain (front ++ decimal n) (λ e. digits_unreturned (decimal n) (length (front ++ decimal n) - 1 - length front) (digits_decimal by_digits n fits) (omega arith) (sym last ∙ e))
 
 feedless : (n : ℕ) → n < 2 ^ 64 → HasNoFeed (decimal n)
@@ -152,31 +151,45 @@ fields_clean p count row fits room =
     let t0 : row.tail ≢ 0 = (let x = fits.arc.tail.first in omega arith) in
     let h0 : row.head ≢ 0 = (let x = fits.arc.head.first in omega arith) in
     let l0 : row.length ≢ 0 = (let x = fits.arc.positive in omega arith) in
-    rw (number_of-decimal row.tail (let x = small.0 in omega arith), number_of-decimal row.head (let x = small.1 in omega arith), number_of-decimal row.length (let x = small.2 in omega arith),
-      lt-leb p.arcs count room, ne_eqb row.tail 0 t0, ne_eqb row.head 0 h0, ne_eqb row.length 0 l0,
-      le-ltb p.vertices row.tail fits.arc.tail.last, le-ltb p.vertices row.head fits.arc.head.last, le-ltb MAX_LENGTH row.length fits.short) refl
+    rw (
+      number_of-decimal row.tail (let x = small.0 in omega arith),
+      number_of-decimal row.head (let x = small.1 in omega arith),
+      number_of-decimal row.length (let x = small.2 in omega arith),
+      lt-leb p.arcs count room,
+      ne_eqb row.tail 0 t0,
+      ne_eqb row.head 0 h0,
+      ne_eqb row.length 0 l0,
+      le-ltb p.vertices row.tail fits.arc.tail.last,
+      le-ltb p.vertices row.head fits.arc.head.last,
+      le-ltb MAX_LENGTH row.length fits.short,
+    ) refl
 
 row_judged : (p : Problem) (count : ℕ) (row : ArcRow) → Fits p row → count < p.arcs → Judges (Some p) count (row_line row) (NewArc row)
 row_judged p count row fits room =
     let small = small_row p row fits in
     let is_small : IsSmall row = record { tail = (let x = small.0 in omega arith); head = (let x = small.1 in omega arith); len = (let x = small.2 in omega arith) } in
     Judges-cut (Some p) count (row_line row) _ (NewArc row) (shown 97 _ refl refl)
-      (let x = row_length row small.0 small.1 small.2 in omega arith)
-      (row_fields row is_small)
-      (fields_clean p count row fits room, refl,
-       (rw (number_of-decimal row.tail (let x = small.0 in omega arith), number_of-decimal row.head (let x = small.1 in omega arith), number_of-decimal row.length (let x = small.2 in omega arith)) refl),
-       record { arc = fits.arc; short = fits.short; room = room })
+    (let x = row_length row small.0 small.1 small.2 in omega arith)
+    (row_fields row is_small) (
+      fields_clean p count row fits room,
+      refl,
+      (rw (number_of-decimal row.tail (let x = small.0 in omega arith), number_of-decimal row.head (let x = small.1 in omega arith), number_of-decimal row.length (let x = small.2 in omega arith)) refl),
+      record { arc = fits.arc; short = fits.short; room = room },
+    )
 
 problem_judged : (p : Problem) → p.vertices ≤ MAX_VERTICES → p.arcs ≤ MAX_ARCS → Judges None 0 (problem_line p.vertices p.arcs) (NewProblem p)
 problem_judged p few_vertices few_arcs =
     let v : p.vertices < 10 ^ 19 = omega arith in
     let a : p.arcs < 10 ^ 19 = omega arith in
     Judges-cut None 0 (problem_line p.vertices p.arcs) _ (NewProblem p) (shown 112 _ refl refl)
-      (let x = problem_length p.vertices p.arcs (omega arith) (omega arith) in omega arith)
-      (problem_fields p.vertices p.arcs (omega arith) (omega arith))
-      ((rw (number_of-decimal p.vertices v, number_of-decimal p.arcs a, le-ltb MAX_VERTICES p.vertices few_vertices, le-ltb MAX_ARCS p.arcs few_arcs) refl),
-       (rw (number_of-decimal p.vertices v, number_of-decimal p.arcs a) refl),
-       refl, refl, record { few_vertices = few_vertices; few_arcs = few_arcs })
+    (let x = problem_length p.vertices p.arcs (omega arith) (omega arith) in omega arith)
+    (problem_fields p.vertices p.arcs (omega arith) (omega arith)) (
+      (rw (number_of-decimal p.vertices v, number_of-decimal p.arcs a, le-ltb MAX_VERTICES p.vertices few_vertices, le-ltb MAX_ARCS p.arcs few_arcs) refl),
+      (rw (number_of-decimal p.vertices v, number_of-decimal p.arcs a) refl),
+      refl,
+      refl,
+      record { few_vertices = few_vertices; few_arcs = few_arcs },
+    )
 
 -- ---- all the lines
 
@@ -213,13 +226,13 @@ row_feedless row small =
     let l = small.len in
     let P : ℕ → Type 0 = λ b. b ≢ 10 in
     HasNoFeed-append (codes "a ") (decimal row.tail ++ 32 ∷ (decimal row.head ++ 32 ∷ decimal row.length)) (eqb-false 97 10 refl, (eqb-false 32 10 refl, tt))
-      (HasNoFeed-append (decimal row.tail) (32 ∷ (decimal row.head ++ 32 ∷ decimal row.length)) (feedless row.tail (omega arith))
-        (eqb-false 32 10 refl, HasNoFeed-append (decimal row.head) (32 ∷ decimal row.length) (feedless row.head (omega arith)) (eqb-false 32 10 refl, feedless row.length (omega arith))))
+    (HasNoFeed-append (decimal row.tail) (32 ∷ (decimal row.head ++ 32 ∷ decimal row.length)) (feedless row.tail (omega arith))
+    (eqb-false 32 10 refl, HasNoFeed-append (decimal row.head) (32 ∷ decimal row.length) (feedless row.head (omega arith)) (eqb-false 32 10 refl, feedless row.length (omega arith))))
 
 problem_feedless : (vertices arcs : ℕ) → vertices < 2 ^ 32 → arcs < 2 ^ 32 → HasNoFeed (problem_line vertices arcs)
 problem_feedless vertices arcs v a =
     HasNoFeed-append (codes "p sp ") (decimal vertices ++ 32 ∷ decimal arcs) (eqb-false 112 10 refl, (eqb-false 32 10 refl, (eqb-false 115 10 refl, (eqb-false 112 10 refl, (eqb-false 32 10 refl, tt)))))
-      (HasNoFeed-append (decimal vertices) (32 ∷ decimal arcs) (feedless vertices (omega arith)) (eqb-false 32 10 refl, feedless arcs (omega arith)))
+    (HasNoFeed-append (decimal vertices) (32 ∷ decimal arcs) (feedless vertices (omega arith)) (eqb-false 32 10 refl, feedless arcs (omega arith)))
 
 row_text-is : (row : ArcRow) (rest : List ℕ) → row_text row ++ rest ≡ row_line row ++ 10 ∷ rest
 row_text-is row rest = simp append_assoc
@@ -262,9 +275,10 @@ problem_for g = record { vertices = g.vertices; arcs = length g.arcs }
 
 all_fit : (g : Graph) (rows : List ArcRow) → g.vertices ≤ MAX_VERTICES → All (IsArc g.vertices) rows → All (λ (r : ArcRow). r.length < 4294967296) rows → AllByRecursion (Fits (problem_for g)) rows
 all_fit g [] few arcs short = tt
-all_fit g (row ∷ rows) few arcs short =
-    (record { arc = All-head (IsArc g.vertices) row rows arcs; short = (let x = All-head (λ (r : ArcRow). r.length < 4294967296) row rows short in omega arith); few = few },
-     all_fit g rows few (All-tail (IsArc g.vertices) row rows arcs) (All-tail (λ (r : ArcRow). r.length < 4294967296) row rows short))
+all_fit g (row ∷ rows) few arcs short = (
+  record { arc = All-head (IsArc g.vertices) row rows arcs; short = (let x = All-head (λ (r : ArcRow). r.length < 4294967296) row rows short in omega arith); few = few },
+  all_fit g rows few (All-tail (IsArc g.vertices) row rows arcs) (All-tail (λ (r : ArcRow). r.length < 4294967296) row rows short),
+)
 
 all_small : (p : Problem) (rows : List ArcRow) → AllByRecursion (Fits p) rows → AllByRecursion IsSmall rows
 all_small p [] fits = tt
@@ -284,18 +298,18 @@ gr_text-graph_text g limits =
     let fits = all_fit g g.arcs v limits.is_graph limits.short in
     let parts : problem_text g.vertices (length g.arcs) ++ rest ≡ head ++ 10 ∷ rest = problem_text-is g.vertices (length g.arcs) rest in
     let lines : lines_of (problem_text g.vertices (length g.arcs) ++ rest) ≡ head ∷ map row_line g.arcs =
-      ap lines_of parts ∙ lines_of-line head rest (problem_feedless g.vertices (length g.arcs) (omega arith) (omega arith))
-      ∙ ap (λ (l : List ℕ). l ∷ lines_of rest) (problem_kept g.vertices (length g.arcs) (omega arith))
-      ∙ ap (λ (ls : List (List ℕ)). head ∷ ls) (rows_lines g.arcs (all_small p g.arcs fits)) in
+    ap lines_of parts ∙ lines_of-line head rest (problem_feedless g.vertices (length g.arcs) (omega arith) (omega arith))
+    ∙ ap (λ (l : List ℕ). l ∷ lines_of rest) (problem_kept g.vertices (length g.arcs) (omega arith))
+    ∙ ap (λ (ls : List (List ℕ)). head ∷ ls) (rows_lines g.arcs (all_small p g.arcs fits)) in
     let short : length (problem_text g.vertices (length g.arcs) ++ rest) ≤ MAX_FILE =
-      omega (arith, ap length parts, length-append head (10 ∷ rest), problem_length g.vertices (length g.arcs) (omega arith) (omega arith), rows_length p g.arcs fits) in
+    omega (arith, ap length parts, length-append head (10 ∷ rest), problem_length g.vertices (length g.arcs) (omega arith) (omega arith), rows_length p g.arcs fits) in
     let judged = problem_judged p v m in
     let fault : fault_of [] head ≡ None = fault_at_state [] head None 0 problem_in-nil (ap length arcs_in-nil) judged.0 in
     let problem : problem_in (head ∷ []) ≡ Some p = problem_in-push [] head ∙ ap (λ (o : Option Problem). option_or o (problem_of head)) problem_in-nil ∙ judged.1 in
     let arcs : arcs_in (head ∷ []) ≡ [] = arcs_in-push [] head ∙ ap (λ (rs : List ArcRow). rs ++ cons_option (arc_of head) []) arcs_in-nil ∙ ap (λ (o : Option ArcRow). cons_option o []) judged.2 in
     let read = rows_read p (head ∷ []) [] g.arcs problem arcs (omega arith) fits in
     let clean : first_fault [] (head ∷ map row_line g.arcs) ≡ None =
-      first_fault-cons [] (map row_line g.arcs) head ∙ ap (λ (k : Option GraphKind). or_later [] k (first_fault (head ∷ []) (map row_line g.arcs))) fault ∙ read.clean in
+    first_fault-cons [] (map row_line g.arcs) head ∙ ap (λ (k : Option GraphKind). or_later [] k (first_fault (head ∷ []) (map row_line g.arcs))) fault ∙ read.clean in
     let full : end_fault (head ∷ map row_line g.arcs) ≡ None = end_fault-full (head ∷ map row_line g.arcs) p read.problem (omega (arith, ap length read.arcs)) in
     gr_text-short (problem_text g.vertices (length g.arcs) ++ rest) short ∙ ap graph_of lines
     ∙ graph_of-graph (head ∷ map row_line g.arcs) g clean full (sym (ap vertices_of read.problem)) (sym read.arcs)

@@ -12,7 +12,7 @@
 --   gr_text text            the same of a whole text
 -- Lines, fields and numbers are cut as the specifications of road_text say. Lines are counted from 1. A
 -- value is meant only where no check before it fails; 0 and the empty list stand in elsewhere.
-use Rattle.std.specs.Prelude.{ℕ, ◌+◌, ◌==◌, ◌||◌, ◌&&◌, not, Bool, true, false, List, [], ◌∷◌, ◌++◌, Option, Some, None, Result, Ok, Err, length, take, codes, slice_index_or, unwrap_or, is_some, is_none, nat_lt, nat_le, if◌then◌else◌}
+use Rattle.std.specs.Prelude.{ℕ, ◌+◌, ◌==◌, ◌||◌, not, Bool, false, List, [], ◌∷◌, ◌++◌, Option, Some, None, Result, Ok, Err, length, take, codes, slice_index_or, unwrap_or, is_some, is_none, nat_lt, nat_le, if◌then◌else◌}
 use Rattle.std.specs.List.{filter_map}
 use Rattle.std.specs.Option.{option_or}
 use Rattle.std.specs.Str.{bytes_eq}
@@ -102,22 +102,22 @@ is_outside n last = is_zero n || is_above n last
 abbrev pub problem_fault : Option Problem → List (List ℕ) → Option GraphKind
 problem_fault problem fields = first_failing (
     (is_some problem, SecondProblem)
-  ∷ (not (length fields == 4) || not (is_field fields 1 (codes "sp")), BadLine)
-  ∷ (is_none (number_at fields 2) || is_none (number_at fields 3), BadNumber)
-  ∷ (is_above (number_at fields 2) MAX_VERTICES, LimitVertices)
-  ∷ (is_above (number_at fields 3) MAX_ARCS, LimitArcs)
-  ∷ [])
+    ∷ (not (length fields == 4) || not (is_field fields 1 (codes "sp")), BadLine)
+    ∷ (is_none (number_at fields 2) || is_none (number_at fields 3), BadNumber)
+    ∷ (is_above (number_at fields 2) MAX_VERTICES, LimitVertices)
+    ∷ (is_above (number_at fields 3) MAX_ARCS, LimitArcs)
+    ∷ [])
 
 abbrev pub arc_fault : Option Problem → ℕ → List (List ℕ) → Option GraphKind
 arc_fault problem count fields = first_failing (
     (is_none problem, NoProblem)
-  ∷ (nat_le (arcs_of problem) count, TooManyArcs)
-  ∷ (not (length fields == 4), BadLine)
-  ∷ (is_none (number_at fields 1) || (is_none (number_at fields 2) || is_none (number_at fields 3)), BadNumber)
-  ∷ (is_outside (number_at fields 1) (vertices_of problem) || is_outside (number_at fields 2) (vertices_of problem), VertexRange)
-  ∷ (is_zero (number_at fields 3), LengthZero)
-  ∷ (is_above (number_at fields 3) MAX_LENGTH, LengthLarge)
-  ∷ [])
+    ∷ (nat_le (arcs_of problem) count, TooManyArcs)
+    ∷ (not (length fields == 4), BadLine)
+    ∷ (is_none (number_at fields 1) || (is_none (number_at fields 2) || is_none (number_at fields 3)), BadNumber)
+    ∷ (is_outside (number_at fields 1) (vertices_of problem) || is_outside (number_at fields 2) (vertices_of problem), VertexRange)
+    ∷ (is_zero (number_at fields 3), LengthZero)
+    ∷ (is_above (number_at fields 3) MAX_LENGTH, LengthLarge)
+    ∷ [])
 
 abbrev pub fields_fault : Option Problem → ℕ → List (List ℕ) → Option GraphKind
 fields_fault problem count [] = None
@@ -151,8 +151,8 @@ first_fault before (line ∷ lines) = or_later before (fault_of before line) (fi
 unfoldable pub end_fault : List (List ℕ) → Option GraphKind
 end_fault lines = first_failing (
     (is_none (problem_in lines), NoProblem)
-  ∷ (nat_lt (length (arcs_in lines)) (arcs_of (problem_in lines)), TooFewArcs)
-  ∷ [])
+    ∷ (nat_lt (length (arcs_in lines)) (arcs_of (problem_in lines)), TooFewArcs)
+    ∷ [])
 
 abbrev pub graph_or : Option GraphFault → Graph → Result Graph GraphFault
 graph_or None graph = Ok graph
@@ -161,13 +161,13 @@ graph_or (Some fault) graph = Err fault
 unfoldable pub graph_of : List (List ℕ) → Result Graph GraphFault
 graph_of lines =
     graph_or (option_or (first_fault [] lines) (or_later lines (end_fault lines) None))
-      (record { vertices = vertices_of (problem_in lines); arcs = arcs_in lines })
+    (record { vertices = vertices_of (problem_in lines); arcs = arcs_in lines })
 
 -- a file that is too long: a fault of the lines that end within the limit, else the length itself
 unfoldable pub long_text : List (List ℕ) → Result Graph GraphFault
 long_text lines =
     graph_or (option_or (first_fault [] lines) (Some (fault_at lines FileLong)))
-      (record { vertices = 0; arcs = [] })
+    (record { vertices = 0; arcs = [] })
 
 unfoldable pub gr_text : List ℕ → Result Graph GraphFault
 gr_text text =

@@ -28,9 +28,9 @@ pub record FitsProblem (problem : Option Problem) (count : ℕ) (row : ArcRow) :
 abbrev pub row_fault : ℕ → ℕ → ℕ → ℕ → Option GraphKind
 row_fault vertices tail head len = first_failing (
     (is_outside (Some tail) vertices || is_outside (Some head) vertices, VertexRange)
-  ∷ (is_zero (Some len), LengthZero)
-  ∷ (is_above (Some len) MAX_LENGTH, LengthLarge)
-  ∷ [])
+    ∷ (is_zero (Some len), LengthZero)
+    ∷ (is_above (Some len) MAX_LENGTH, LengthLarge)
+    ∷ [])
 
 abbrev pub JudgesRow : ℕ → ℕ → ℕ → ℕ → Judged → Type 0
 JudgesRow vertices tail head len (Wrong kind) = row_fault vertices tail head len ≡ Some kind

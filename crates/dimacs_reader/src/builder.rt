@@ -11,9 +11,9 @@ ghost use Rattle.dimacs_reader.specs.Building.{IsSound, IsAfter, Adds, Ends};
 use crate::fault::{GraphError, GraphFault, GraphKind};
 use crate::judge::{begins_comment, judge};
 use crate::line::{Judged, Problem};
-use road_text::{Advance, LineReader};
 use road_model::{ArcRow, ArcRows, GraphFile};
-use std::alloc::{Global};
+use road_text::{Advance, LineReader};
+use std::alloc::Global;
 
 /// Whether more lines may come.
 #[derive(Clone, Copy, Debug, PartialEq, Eq)]

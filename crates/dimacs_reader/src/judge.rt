@@ -85,8 +85,7 @@ fn judge_arc(line: &[u8], at: usize, problem: Option<Problem>, count: usize) -> 
     let Some((tail, head, length)) = values(line, at) else {
         return Judged::Wrong(GraphKind::BadLine);
     };
-    let (Some(tail), Some(head), Some(length)) = (number(tail), number(head), number(length))
-    else {
+    let (Some(tail), Some(head), Some(length)) = (number(tail), number(head), number(length)) else {
         return Judged::Wrong(GraphKind::BadNumber);
     };
     judge_row(vertices as u64, tail, head, length)

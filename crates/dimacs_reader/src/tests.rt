@@ -1,5 +1,5 @@
-use crate::{GraphError, GraphFault, GraphKind, read_graph};
-use road_io::MemSource;
+use crate::{GraphError, GraphFault, GraphKind, read_graph, write_graph};
+use road_io::{MemSink, MemSource, Put};
 use std::alloc::{AllocError, Global};
 use std::test::Fail;
 
@@ -38,7 +38,11 @@ fn answers_by_the_first_fault(rt: HostRuntime) {
         (b"p sp 2 1\na 1 2 0\n", 2, GraphKind::LengthZero),
         (b"p sp 2 1\na 1 2 4294967296\n", 2, GraphKind::LengthLarge),
         (b"p sp 2 1\na 1 3 x\n", 2, GraphKind::BadNumber),
-        (b"p sp 2 1\na 1 2 00000000000000000005\n", 2, GraphKind::BadNumber),
+        (
+            b"p sp 2 1\na 1 2 00000000000000000005\n",
+            2,
+            GraphKind::BadNumber,
+        ),
         (b"p sp 2 1\na 1 2\n", 2, GraphKind::BadLine),
         (b"p sp 2 1\na 1 2 3 4\n", 2, GraphKind::BadLine),
         (b"p sp 2 1\na 1 2 3\r4\n", 2, GraphKind::BadNumber),
@@ -67,14 +71,21 @@ fn accepts_what_the_form_allows(rt: HostRuntime) {
         (b"p sp 33554432 0", (33554432, 0)),
         (b"p sp 2 1\na 1 2 4294967295\n", (2, 1)),
         (b"p sp 2 1\r\na 1 2 5", (2, 1)),
-        (b"c road\n \t c a 1 2\n\n p\tsp 002 1 \n\ta  2 1 0000000000000000005\t\r\nc", (2, 1)),
+        (
+            b"c road\n \t c a 1 2\n\n p\tsp 002 1 \n\ta  2 1 0000000000000000005\t\r\nc",
+            (2, 1),
+        ),
         (b"p sp 1 2\na 1 1 1\nc between\na 1 1 2\n", (1, 2)),
         (b"p sp 1 1\na 1 1 1\r", (1, 1)),
         (b"c\rp sp 9 9\np sp 1 0\n", (1, 0)),
     ];
     for (text, wanted) in rows {
         for piece in [0, 1, 5] {
-            assert_eq!(rt; sizes(rt.alloc(), text, piece, &[]), Ok(wanted), "{text:?} by {piece}");
+            assert_eq!(rt;
+                sizes(rt.alloc(), text, piece, &[]),
+                Ok(wanted),
+                "{text:?} by {piece}"
+            );
         }
     }
 }
@@ -100,7 +111,11 @@ fn limits_lines_that_are_no_comments(rt: HostRuntime) -> Result<(), Fail> {
     ];
     for (byte, len, wanted) in rows {
         let text = with_line(rt.alloc(), byte, len)?;
-        assert_eq!(rt; sizes(rt.alloc(), text.as_slice(), 0, &[]), wanted, "{byte} times {len}");
+        assert_eq!(rt;
+            sizes(rt.alloc(), text.as_slice(), 0, &[]),
+            wanted,
+            "{byte} times {len}"
+        );
     }
     Ok(())
 }
@@ -115,10 +130,28 @@ fn tells_a_failed_read_from_a_fault_before_it(rt: HostRuntime) {
         (3, refused(1, GraphKind::BadLine)),
     ];
     for (fails, wanted) in rows {
-        assert_eq!(rt; sizes(rt.alloc(), b"x\np sp 1 0\n", 1, &[fails]), wanted, "at {fails}");
+        assert_eq!(rt;
+            sizes(rt.alloc(), b"x\np sp 1 0\n", 1, &[fails]),
+            wanted,
+            "at {fails}"
+        );
     }
     assert_eq!(rt;
         sizes(rt.alloc(), b"p sp 1 0\n", 0, &[1]),
         Err(GraphError::ReadFault)
     );
+}
+
+#[test]
+fn writes_the_canonical_text(rt: HostRuntime) -> Result<(), Fail> {
+    let text = b"c first\n p sp\t6 03\na 1 2 10\r\n a 2 6 0001\n\na 6  1 4294967295";
+    let wanted = b"p sp 6 3\na 1 2 10\na 2 6 1\na 6 1 4294967295\n";
+    let mut source = MemSource::new(text, 7, &[]);
+    let graph = read_graph(rt.alloc(), &mut source)?;
+    let mut sink = MemSink::new(rt.alloc(), &[]);
+    assert!(rt; write_graph(&mut sink, &graph) == Put::Done);
+    assert_eq!(rt; sink.bytes(), wanted.as_slice());
+    let mut failing = MemSink::new(rt.alloc(), &[0]);
+    assert!(rt; write_graph(&mut failing, &graph) == Put::Failed);
+    Ok(())
 }

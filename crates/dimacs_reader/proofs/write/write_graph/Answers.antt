@@ -1,4 +1,4 @@
-use Rattle.std.proofs.Common.{◌≡◌, ℕ, ◌+◌, ◌≤◌, List, ◌++◌, length, get_or, sym, ap, subst, ◌∙◌, arith, append_assoc}
+use Rattle.std.proofs.Common.{◌≡◌, ℕ, ◌+◌, List, ◌++◌, length, get_or, sym, ap, ◌∙◌, arith}
 use Rattle.road_io.specs.declared.writing.Put.TheVariants.{Done}
 use Rattle.road_io.proofs.SinkLemmas.{Writes_both}
 use Rattle.road_model.specs.declared.rows.ArcRow.{ArcRow}
@@ -25,13 +25,15 @@ loop-row-preserved g c =
     let sent : List ℕ = c.loop-row.invariant.0 in
     let later = c.in-Done.ensures.sent in
     let more : text_upto graph (i + 1) ≡ text_upto graph i ++ row_text row = text_upto-more graph i row
-      (omega (arith, c.loop-row-test.true, ap length c.arcs-row-items.ensures.rows))
-      (ap (λ (rows : List ArcRow). get_or rows i row) (sym c.arcs-row-items.ensures.rows) ∙ sym c.row-item.is) in
-    (sent ++ later.0, record {
-      parts = gathered_more sent later.0 (pending c.loop-row.text) (pending c.make_room.new.self) (row_text row) (text_upto graph i) (pending c.push_row.new.self) so_far.parts later.1 c.push_row.ensures ∙ sym more;
-      written = Writes_both sent later.0 _ _ _ Done so_far.written later.2;
-      count = (let h = so_far.count in omega (arith, c.make_room.ensures.count));
-    })
+    (omega (arith, c.loop-row-test.true, ap length c.arcs-row-items.ensures.rows))
+    (ap (λ (rows : List ArcRow). get_or rows i row) (sym c.arcs-row-items.ensures.rows) ∙ sym c.row-item.is) in (
+      sent ++ later.0,
+      record {
+        parts = gathered_more sent later.0 (pending c.loop-row.text) (pending c.make_room.new.self) (row_text row) (text_upto graph i) (pending c.push_row.new.self) so_far.parts later.1 c.push_row.ensures ∙ sym more;
+        written = Writes_both sent later.0 _ _ _ Done so_far.written later.2;
+        count = (let h = so_far.count in omega (arith, c.make_room.ensures.count));
+      },
+    )
 
 pub returns-clause-writes : goal.returns-clause-writes
 returns-clause-writes g c =

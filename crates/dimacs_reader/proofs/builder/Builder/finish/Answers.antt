@@ -1,4 +1,4 @@
-use Rattle.std.proofs.Common.{◌≡◌, ℕ, ◌<◌, ◌≤◌, List, length, Some, None, refl, sym, ap, ◌∙◌, rules, arith}
+use Rattle.std.proofs.Common.{◌≡◌, ◌<◌, ◌≤◌, length, Some, None, sym, ap, ◌∙◌, arith}
 use Rattle.road_model.specs.Graph.{Graph}
 use Rattle.dimacs_reader.specs.declared.fault.GraphKind.TheVariants.{NoProblem, TooFewArcs}
 use Rattle.dimacs_reader.specs.Gr.{problem_in, arcs_in, vertices_of}
@@ -19,8 +19,7 @@ returns-then-len-problem-clause-ends c = λ lines after.
 pub returns-clause-ends : goal.returns-clause-ends
 returns-clause-ends c = λ lines after.
     let some : problem_in lines ≡ Some c.in-Some.problem = sym after.problem ∙ c.in-Some.is in
-    let full : c.in-Some.problem.arcs ≤ length (arcs_in lines) = omega (arith, c.if-len-problem.false, c.len.ensures, c.args.self.arcs.ok.0, ap length after.arcs) in
-    (
+    let full : c.in-Some.problem.arcs ≤ length (arcs_in lines) = omega (arith, c.if-len-problem.false, c.len.ensures, c.args.self.arcs.ok.0, ap length after.arcs) in (
       end_fault-full lines c.in-Some.problem some full,
       ap (λ (g : Graph). g.vertices) c.new.ensures ∙ sym (ap vertices_of some),
       ap (λ (g : Graph). g.arcs) c.new.ensures ∙ c.from_vec.ensures ∙ after.arcs,
