@@ -6,6 +6,7 @@
 
 mod answers;
 mod paths;
+mod worked;
 
 pub use answers::{
     answer_is_one, least_local_failure_is_one, least_stretch_failure_is_one, numbers_are_one,
@@ -14,4 +15,8 @@ pub use answers::{
 pub use paths::{
     dist_is_one, first_is_one, last_is_one, locally_optimal_is_shortest, parts_of_shortest,
     parts_of_walk, triangle, via_of_target, via_parts_are_shortest,
+};
+pub use worked::{
+    closed_subpaths_fail, distances_of_a, no_path_of_a, on_the_bound_is_tested_no_further,
+    the_long_way_of_a_is_admissible, ties_go_by_arc_number, two_arcs_fail_without_their_ends,
 };

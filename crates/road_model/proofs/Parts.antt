@@ -42,8 +42,8 @@ between_pieces g u a b c =
     let low = sum_after g a (b ++ c) 0 in
     let high = sum_after g (a ++ b) c 0 in
     let same : get_or (sums g 0 (a ++ (b ++ c))) (length a + length b) 0 ≡ get_or (sums g 0 ((a ++ b) ++ c)) (length (a ++ b)) 0 =
-        ap (λ (l : List ℕ). get_or (sums g 0 l) (length a + length b) 0) (sym (append_assoc a b c))
-        ∙ ap (λ (n : ℕ). get_or (sums g 0 ((a ++ b) ++ c)) n 0) (sym (length-append a b)) in
+    ap (λ (l : List ℕ). get_or (sums g 0 l) (length a + length b) 0) (sym (append_assoc a b c))
+    ∙ ap (λ (n : ℕ). get_or (sums g 0 ((a ++ b) ++ c)) n 0) (sym (length-append a b)) in
     omega (arith, low, high, same, walk_length-append g a b)
 
 pub place_pieces : (g : Graph) (u x y : ℕ) (a b c : List ℕ) → IsWalk g u a x → IsWalk g x b y → vertex_at (trail_of g u (a ++ (b ++ c))) (length a + length b) ≡ y
@@ -83,7 +83,7 @@ pieces p i j le inside =
       back = drop (j - i) (drop i p);
       is = sym (ap (λ (l : List ℕ). take i p ++ l) (take-append-drop (j - i) (drop i p)) ∙ take-append-drop i p);
       near = near;
-      far = omega arith
+      far = omega arith;
     }
 
 -- facts of the three pieces, told of the walk and its places
@@ -102,8 +102,8 @@ parted_pieces g u v a b c h =
     record {
       part = b;
       walk = subst (λ (x : ℕ). IsWalk g x b (vertex_at (trail_of g u (a ++ (b ++ c))) (length a + length b))) (sym near)
-        (subst (λ (x : ℕ). IsWalk g outer.middle b x) (sym far) inner.front);
-      long = sym (between_pieces g u a b c)
+          (subst (λ (x : ℕ). IsWalk g outer.middle b x) (sym far) inner.front);
+      long = sym (between_pieces g u a b c);
     }
 
 -- the subpath of a walk between two places
@@ -128,7 +128,7 @@ middle_of g u w a b c h =
       from = outer.middle;
       to = inner.middle;
       before = outer.front;
-      shortest = front_of_shortest g b c outer.middle inner.middle w rest inner.front inner.back
+      shortest = front_of_shortest g b c outer.middle inner.middle w rest inner.front inner.back;
     }
 
 front_pieces : (g : Graph) (u w : ℕ) (a b c q : List ℕ) → IsShortest g u (a ++ (b ++ c)) w → IsDistAt g (trail_of g u ((a ++ (b ++ c)) ++ q)) (length a) (length a + length b) (between (trail_of g u ((a ++ (b ++ c)) ++ q)) (length a) (length a + length b))
@@ -162,7 +162,7 @@ dist_in_back g u v w f q i j walk h behind le inside =
     let whole : length (f ++ q) ≡ length f + length q = length-append f q in
     let cuts : Pieces q (i - length f) (j - length f) = pieces q (i - length f) (j - length f) (omega arith) (omega arith) in
     let shifted = moved (λ l m n. IsDistAt g (trail_of g u (f ++ l)) (length f + m) (length f + n) (between (trail_of g u (f ++ l)) (length f + m) (length f + n))) q (i - length f) (j - length f) cuts
-        (back_pieces g u v w f cuts.front cuts.middle cuts.back walk (subst (λ (l : List ℕ). IsShortest g v l w) cuts.is h)) in
+    (back_pieces g u v w f cuts.front cuts.middle cuts.back walk (subst (λ (l : List ℕ). IsShortest g v l w) cuts.is h)) in
     let near : length f + (i - length f) ≡ i = omega arith in
     let far : length f + (j - length f) ≡ j = omega arith in
     subst (λ (n : ℕ). IsDistAt g (trail_of g u (f ++ q)) n j (between (trail_of g u (f ++ q)) n j)) near

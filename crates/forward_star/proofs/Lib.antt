@@ -1,0 +1,4 @@
+pub mod Counts
+pub mod Runs
+pub mod Turned
+pub mod Bound
