@@ -1,18 +1,13 @@
 -- How the first fault of a file, its problem and its arcs go on over one line more.
-use Rattle.std.proofs.Common.{◌≡◌, ℕ, ◌+◌, ◌<◌, ◌≤◌, Bool, true, false, cond, List, [], ◌∷◌, ◌++◌, length, take, Option, Some, None, Result, Ok, Err, refl, sym, ap, subst, ◌∙◌, arith, append_assoc}
-use Rattle.std.specs.List.{filter_map, cons_option}
+use Rattle.std.proofs.Common.{◌≡◌, ℕ, List, [], ◌∷◌, ◌++◌, length, Option, Some, None, refl, sym, ap, ◌∙◌, append_assoc}
+use Rattle.std.specs.List.{cons_option}
 use Rattle.std.specs.Option.{option_or}
-use Rattle.std.proofs.lemmas.Bool.{le-leb, lt-leb}
-use Rattle.std.proofs.lemmas.List.{append-nil, length-append, length_push}
+use Rattle.std.proofs.lemmas.List.{append-nil}
 use Rattle.std.proofs.lemmas.List.Elements.{filter_map-append}
-use Rattle.road_model.specs.declared.rows.ArcRow.{ArcRow}
-use Rattle.road_model.specs.Graph.{Graph}
-use Rattle.road_text.specs.Lines.{lines_of, whole_lines}
 use Rattle.dimacs_reader.specs.declared.fault.GraphKind.{GraphKind}
 use Rattle.dimacs_reader.specs.declared.fault.GraphFault.{GraphFault}
 use Rattle.dimacs_reader.specs.declared.line.Problem.{Problem}
-use Rattle.dimacs_reader.specs.declared.line.TheConstants.{MAX_FILE}
-use Rattle.dimacs_reader.specs.Gr.{problem_of, arc_of, problem_in, arcs_in, line_fault, fault_of, fault_at, or_later, first_fault, graph_of, long_text, gr_text}
+use Rattle.dimacs_reader.specs.Gr.{problem_of, arc_of, problem_in, arcs_in, line_fault, fault_of, fault_at, or_later, first_fault}
 
 pub problem_in-nil : problem_in [] ≡ None
 unfolding problem_in

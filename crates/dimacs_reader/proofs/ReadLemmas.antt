@@ -1,16 +1,15 @@
 -- What a text comes to, by how far it was read and what was gathered.
-use Rattle.std.proofs.Common.{◌≡◌, ℕ, ◌+◌, ◌-◌, ◌<◌, ◌≤◌, true, false, cond, List, [], ◌∷◌, ◌++◌, length, take, drop, Option, Some, None, Result, Ok, Err, refl, sym, ap, subst, ◌∙◌, arith, append_assoc, ⊎_elim}
-use Rattle.std.specs.Option.{option_or}
+use Rattle.std.proofs.Common.{◌≡◌, ℕ, ◌-◌, ◌<◌, ◌≤◌, true, false, List, [], ◌∷◌, ◌++◌, length, take, Option, Some, None, Result, Ok, Err, refl, sym, ap, subst, ◌∙◌, arith, ⊎_elim}
 use Rattle.std.proofs.Math.Seq.{take-append-add}
 use Rattle.std.proofs.lemmas.Bool.{le-leb, lt-leb, cases_lt}
-use Rattle.std.proofs.lemmas.List.{append-nil, length-append, take-append-drop}
+use Rattle.std.proofs.lemmas.List.{append-nil}
 use Rattle.road_model.specs.Graph.{Graph}
 use Rattle.road_text.specs.Lines.{lines_of, whole_lines}
 use Rattle.road_text.specs.declared.line_reader.LineReader.{LineReader}
 use Rattle.road_text.specs.declared.line_reader.Advance.TheVariants.{Whole, Last, Long, End, Spent, Failed}
 use Rattle.road_text.specs.Reader.{held, line_of, budget, limit_of, IsLongLine, Steps}
 use Rattle.road_text.specs.Behind.{IsBehind, IsRead, IsBroken, IsOver}
-use Rattle.road_text.proofs.BehindLemmas.{IsBehind-fresh, behind_whole, behind_long, read_last, read_long, read_end, over_spent, broken_failed}
+use Rattle.road_text.proofs.BehindLemmas.{behind_whole, behind_long, read_last, read_long, read_end, over_spent, broken_failed}
 use Rattle.dimacs_reader.specs.declared.fault.GraphKind.{GraphKind}
 use Rattle.dimacs_reader.specs.declared.fault.GraphKind.TheVariants.{FileLong}
 use Rattle.dimacs_reader.specs.declared.fault.GraphFault.{GraphFault}
@@ -18,8 +17,8 @@ use Rattle.dimacs_reader.specs.declared.fault.GraphError.{GraphError}
 use Rattle.dimacs_reader.specs.declared.fault.GraphError.TheVariants.{Refused, ReadFault, NoMemory}
 use Rattle.dimacs_reader.specs.declared.line.TheConstants.{MAX_LINE, MAX_FILE}
 use Rattle.dimacs_reader.specs.declared.builder.Builder.{Builder}
-use Rattle.dimacs_reader.specs.Gr.{problem_in, arcs_in, vertices_of, fault_of, fault_at, or_later, first_fault, end_fault, graph_or, graph_of, long_text, gr_text}
-use Rattle.dimacs_reader.specs.Building.{IsAfter, Adds, Ends}
+use Rattle.dimacs_reader.specs.Gr.{problem_in, arcs_in, vertices_of, fault_of, fault_at, first_fault, end_fault, graph_of, long_text, gr_text}
+use Rattle.dimacs_reader.specs.Building.{Adds, Ends}
 use Rattle.dimacs_reader.specs.Gathering.{Gathers, GathersAll}
 use Rattle.dimacs_reader.specs.Reads.{ReadsGraph, IsCutShort}
 use Rattle.dimacs_reader.proofs.GrLemmas.{first_fault-push, first_fault-found}

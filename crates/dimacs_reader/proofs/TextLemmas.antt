@@ -1,34 +1,33 @@
 -- The canonical text of a graph is accepted as that graph.
-use Rattle.std.proofs.Common.{◌≡◌, ◌≢◌, ℕ, ◌+◌, ◌-◌, ◌*◌, ◌^◌, ◌<◌, ◌≤◌, Bool, true, false, ◌&&◌, zero, suc, List, [], ◌∷◌, ◌++◌, length, map, get_or, drop, take, codes, Option, Some, None, Result, Ok, Err, refl, sym, ap, subst, ◌∙◌, arith, append_assoc, lit<, lit≤}
+use Rattle.std.proofs.Common.{◌≡◌, ◌≢◌, ℕ, ◌+◌, ◌-◌, ◌*◌, ◌^◌, ◌<◌, ◌≤◌, true, false, zero, suc, List, [], ◌∷◌, ◌++◌, length, map, get_or, codes, Option, Some, None, Ok, refl, sym, ap, ◌∙◌, arith, append_assoc, lit<}
 use Rattle.std.specs.Prelude.{decimal}
 use Rattle.std.specs.List.{flat_map, cons_option, All, AllByRecursion}
 use Rattle.std.specs.Option.{option_or}
 use Rattle.std.specs.Char.{is_ascii_digit}
 use Rattle.std.specs.Str.{all_ascii_digits}
 use Rattle.std.specs.Str.Parse.{digits_value}
-use Rattle.std.proofs.lemmas.Bool.{and_parts, ne_eqb, lt-leb, le-leb, le-ltb, lt-ltb, eqb-false}
+use Rattle.std.proofs.lemmas.Bool.{and_parts, ne_eqb, lt-leb, le-ltb, eqb-false}
 use Rattle.std.proofs.lemmas.Bool.Decides.{nat_tests}
 use Rattle.std.proofs.lemmas.Fmt.{digits_decimal, digits_value-decimal, decimal_nonempty, length-decimal-le}
-use Rattle.std.proofs.lemmas.List.{append-nil, length-append, length-map, length_push, get_or-append_right, take_all}
+use Rattle.std.proofs.lemmas.List.{append-nil, length-append, length_push, get_or-append_right}
 use Rattle.std.proofs.lemmas.List.Elements.{All-head, All-tail}
 use Rattle.std.proofs.lemmas.Str.Parse.{IsNumeralModel, numerals_by_value, tells_all_ascii_digits}
 use Rattle.road_model.specs.declared.rows.ArcRow.{ArcRow}
 use Rattle.road_model.specs.declared.graph_file.TheConstants.{MAX_VERTICES, MAX_ARCS, MAX_LENGTH}
-use Rattle.road_model.specs.Graph.{Graph, IsArc, IsVertex}
+use Rattle.road_model.specs.Graph.{Graph, IsArc}
 use Rattle.road_model.specs.File.{IsWithinLimits}
 use Rattle.road_text.specs.Lines.{HasNoFeed, lines_of, without_return}
-use Rattle.road_text.specs.Fields.{is_blank, fields_of, first_byte}
+use Rattle.road_text.specs.Fields.{is_blank, fields_of}
 use Rattle.road_text.specs.Numbers.{number_of}
 use Rattle.road_text.proofs.LineLemmas.{HasNoFeed-append, lines_of-line, lines_of-nil, without_return-plain}
 use Rattle.road_text.proofs.FieldLemmas.{Passes, fields_of-field, fields_of-last, first_byte-stop}
 use Rattle.road_text.proofs.NumberLemmas.{number_of-digits}
 use Rattle.dimacs_reader.specs.declared.fault.GraphKind.{GraphKind}
-use Rattle.dimacs_reader.specs.declared.fault.GraphFault.{GraphFault}
 use Rattle.dimacs_reader.specs.declared.line.Problem.{Problem}
-use Rattle.dimacs_reader.specs.declared.line.TheConstants.{MAX_LINE, MAX_FILE}
-use Rattle.dimacs_reader.specs.Gr.{is_comment, is_byte, vertices_of, problem_of, arc_of, problem_in, arcs_in, problem_from, arc_from, problem_fault, arc_fault, fields_fault, line_fault, fault_of, fault_at, or_later, first_fault, end_fault, graph_of, gr_text}
+use Rattle.dimacs_reader.specs.declared.line.TheConstants.{MAX_FILE}
+use Rattle.dimacs_reader.specs.Gr.{is_comment, is_byte, vertices_of, problem_of, arc_of, problem_in, arcs_in, fields_fault, fault_of, or_later, first_fault, end_fault, graph_of, gr_text}
 use Rattle.dimacs_reader.specs.declared.line.Judged.TheVariants.{NewProblem, NewArc}
-use Rattle.dimacs_reader.specs.Judging.{Judges, FitsProblem, IsProblem}
+use Rattle.dimacs_reader.specs.Judging.{Judges}
 use Rattle.dimacs_reader.specs.Text.{problem_text, row_text, graph_text}
 use Rattle.dimacs_reader.proofs.JudgeLemmas.{Judges-cut}
 use Rattle.dimacs_reader.proofs.GrLemmas.{problem_in-nil, arcs_in-nil, problem_in-push, arcs_in-push, first_fault-nil, first_fault-cons, fault_at_state}

@@ -3,7 +3,7 @@
 --   IsAfter         the problem and the arcs so far are those of these lines, and so many lines came
 --   Adds            what one line did: the gathering is that of the lines with this one, or the line has this fault
 --   Ends            what comes of it at the end of the file
-use Rattle.std.specs.Prelude.{◌≡◌, ℕ, ◌+◌, ◌<◌, ◌≤◌, List, [], ◌∷◌, ◌++◌, Option, None, Some, Result, Ok, Err, length, All}
+use Rattle.std.specs.Prelude.{◌≡◌, ℕ, ◌≤◌, List, [], ◌∷◌, ◌++◌, None, Some, Result, Ok, Err, length, All}
 use Rattle.road_model.specs.declared.rows.ArcRow.{ArcRow}
 use Rattle.road_model.specs.declared.graph_file.TheConstants.{MAX_VERTICES, MAX_ARCS, MAX_LENGTH}
 use Rattle.road_model.specs.Graph.{Graph, IsArc}

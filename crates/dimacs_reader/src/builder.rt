@@ -78,7 +78,7 @@ impl Builder {
         Ok(())
     }
 
-    /// Takes one line that is longer than others than comments may be, by its first byte that isn't blank.
+    /// Takes one line that was too long to be shown, by its first byte that isn't blank.
     pub(crate) fn pass(&mut self, first: Option<u8>) -> Result<(), GraphError>
         requires sound { IsSound self.old }
         requires few { self.old.lines < 2 ^ 63 }

@@ -1,5 +1,5 @@
-use crate::{GraphError, GraphFault, GraphKind, read_graph};
-use road_io::MemSource;
+use crate::{GraphError, GraphFault, GraphKind, read_graph, write_graph};
+use road_io::{MemSink, MemSource, Put};
 use std::alloc::{AllocError, Global};
 use std::test::Fail;
 
@@ -140,4 +140,18 @@ fn tells_a_failed_read_from_a_fault_before_it(rt: HostRuntime) {
         sizes(rt.alloc(), b"p sp 1 0\n", 0, &[1]),
         Err(GraphError::ReadFault)
     );
+}
+
+#[test]
+fn writes_the_canonical_text(rt: HostRuntime) -> Result<(), Fail> {
+    let text = b"c first\n p sp\t6 03\na 1 2 10\r\n a 2 6 0001\n\na 6  1 4294967295";
+    let wanted = b"p sp 6 3\na 1 2 10\na 2 6 1\na 6 1 4294967295\n";
+    let mut source = MemSource::new(text, 7, &[]);
+    let graph = read_graph(rt.alloc(), &mut source)?;
+    let mut sink = MemSink::new(rt.alloc(), &[]);
+    assert!(rt; write_graph(&mut sink, &graph) == Put::Done);
+    assert_eq!(rt; sink.bytes(), wanted.as_slice());
+    let mut failing = MemSink::new(rt.alloc(), &[0]);
+    assert!(rt; write_graph(&mut failing, &graph) == Put::Failed);
+    Ok(())
 }

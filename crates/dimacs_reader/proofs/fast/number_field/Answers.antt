@@ -1,4 +1,4 @@
-use Rattle.std.proofs.Common.{◌≡◌, ℕ, ◌+◌, ◌-◌, ◌*◌, ◌^◌, ◌<◌, ◌≤◌, true, List, length, get_or, sym, ap, subst, ◌∙◌, arith, rules}
+use Rattle.std.proofs.Common.{◌≡◌, ℕ, ◌+◌, ◌-◌, ◌*◌, ◌^◌, ◌<◌, true, List, length, get_or, sym, ap, subst, arith, rules}
 use Rattle.std.specs.Char.{is_ascii_digit}
 use Rattle.road_text.specs.Fields.{is_blank}
 use Rattle.road_text.proofs.NumberLemmas.{digit_value-is}

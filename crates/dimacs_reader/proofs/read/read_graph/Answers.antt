@@ -1,6 +1,6 @@
-use Rattle.std.proofs.Common.{◌≡◌, ℕ, ◌+◌, ◌≤◌, List, [], ◌++◌, Ok, Err, subst, sym, ap, ◌∙◌, arith}
-use Rattle.road_io.proofs.ToldLemmas.{IfTold_both, IfTold_then, told_same}
-use Rattle.road_text.specs.Reader.{held, budget, limit_of, Steps}
+use Rattle.std.proofs.Common.{ℕ, List, [], ◌++◌, Ok, subst, ap, ◌∙◌, arith}
+use Rattle.road_io.proofs.ToldLemmas.{IfTold_both, told_same}
+use Rattle.road_text.specs.Reader.{held, budget, Steps}
 use Rattle.road_text.proofs.BehindLemmas.{IsBehind-fresh}
 use Rattle.dimacs_reader.specs.declared.builder.Gathered.{Gathered}
 use Rattle.dimacs_reader.specs.declared.line.TheConstants.{MAX_LINE, MAX_FILE}

@@ -1,4 +1,4 @@
-use Rattle.std.proofs.Common.{◌≡◌, ℕ, ◌+◌, ◌≤◌, List, ◌++◌, length, get_or, sym, ap, subst, ◌∙◌, arith, append_assoc}
+use Rattle.std.proofs.Common.{◌≡◌, ℕ, ◌+◌, List, ◌++◌, length, get_or, sym, ap, ◌∙◌, arith}
 use Rattle.road_io.specs.declared.writing.Put.TheVariants.{Done}
 use Rattle.road_io.proofs.SinkLemmas.{Writes_both}
 use Rattle.road_model.specs.declared.rows.ArcRow.{ArcRow}

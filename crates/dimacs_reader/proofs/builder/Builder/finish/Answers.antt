@@ -1,4 +1,4 @@
-use Rattle.std.proofs.Common.{◌≡◌, ℕ, ◌<◌, ◌≤◌, List, length, Some, None, refl, sym, ap, ◌∙◌, rules, arith}
+use Rattle.std.proofs.Common.{◌≡◌, ◌<◌, ◌≤◌, length, Some, None, sym, ap, ◌∙◌, arith}
 use Rattle.road_model.specs.Graph.{Graph}
 use Rattle.dimacs_reader.specs.declared.fault.GraphKind.TheVariants.{NoProblem, TooFewArcs}
 use Rattle.dimacs_reader.specs.Gr.{problem_in, arcs_in, vertices_of}

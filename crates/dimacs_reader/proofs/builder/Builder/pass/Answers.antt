@@ -1,4 +1,4 @@
-use Rattle.std.proofs.Common.{◌≡◌, true, false, refl, sym, ◌∙◌, rules}
+use Rattle.std.proofs.Common.{◌≡◌, true, false, refl, ◌∙◌, rules}
 use Rattle.dimacs_reader.specs.declared.fault.GraphKind.TheVariants.{LineLong}
 use Rattle.dimacs_reader.specs.Gr.{is_byte}
 use Rattle.dimacs_reader.proofs.BuilderLemmas.{is_comment-long, fault_of-long, fault_of-comment, IsAfter-comment, fault_at-is}

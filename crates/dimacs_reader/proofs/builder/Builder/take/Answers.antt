@@ -1,12 +1,10 @@
-use Rattle.std.proofs.Common.{◌≡◌, ℕ, ◌+◌, ◌∷◌, [], ◌++◌, Option, List, length, Some, None, refl, sym, ap, ◌∙◌, rules, arith}
+use Rattle.std.proofs.Common.{◌≡◌, ℕ, ◌+◌, [], ◌++◌, Option, List, length, Some, sym, ap, ◌∙◌, arith}
 use Rattle.std.specs.List.{cons_option}
 use Rattle.std.specs.Option.{option_or}
 use Rattle.std.proofs.lemmas.List.{append-nil}
 use Rattle.road_model.specs.declared.rows.ArcRow.{ArcRow}
 use Rattle.dimacs_reader.specs.declared.line.Problem.{Problem}
 use Rattle.dimacs_reader.specs.declared.builder.Builder.{Builder}
-use Rattle.dimacs_reader.specs.Gr.{fault_of, problem_of, arc_of}
-use Rattle.dimacs_reader.specs.Building.{IsAfter}
 use Rattle.dimacs_reader.proofs.BuilderLemmas.{fault_of-is, IsAfter-line, fault_at-is, or_none}
 use Rattle.dimacs_reader.proofs.builder.Builder.take.Goals as goal
 use Rattle.dimacs_reader.proofs.builder.Builder.take.Goals.{in-Nothing, in-NewProblem+in_ok-reserve_exact-in-NewProblem, in-NewArc+in_ok-push-in-NewArc}
