@@ -13,8 +13,8 @@ use std::io;
 use std::io::{Read as _, Write as _};
 use std::rt::Files;
 
-/// The files of the system, by their paths. A path that can't be opened is a fault. An open file is closed at the next pick, or where the
-/// shelf is dropped.
+/// The files of the system, by their paths. A path that can't be opened is a fault. An open file is
+/// closed at the next pick that opens one, or where the shelf is dropped.
 #[derive(Drop)]
 pub struct FileShelf<R: Files + Drop> {
     rt: R,

@@ -1,0 +1,63 @@
+-- What the walks that are found from the trees are.
+use Rattle.std.proofs.Common.{◌≡◌, ℕ, ◌<◌, ◌≤◌, ◌^◌, ◌+◌, List, [], ◌++◌, reverse, Option, Some, None, IsSome, IfSome, sym, ap, ◌∙◌, subst, arith, refl}
+use Rattle.road_model.specs.Graph.{Graph, IsVertex, reversed}
+use Rattle.road_model.specs.File.{IsWithinLimits}
+use Rattle.road_model.specs.Walk.{walk_length}
+use Rattle.road_model.specs.Canonical.{IsFirst, IsLast}
+use Rattle.road_model.specs.Alternatives.{IsVia}
+use Rattle.road_model.proofs.Dists.{IsDist-same, dist_of_shortest}
+use Rattle.forward_star.proofs.Bound.{dists_below}
+use Rattle.tree_search.specs.Ball.{label_at, Reached, IsLabelledTo, IsFoundTo}
+use Rattle.canonical_trees.specs.Tight.{IsRooted, Adds}
+use Rattle.canonical_trees.specs.Trees.{IsInside, IsLabel, IsTreeFrom, IsTreeTo}
+use Rattle.canonical_trees.proofs.Turned.{IsFirst-unreversed}
+use Rattle.canonical_trees.proofs.Balls.{rooted_from_source, some_label, IsInside-reversed, inside_vertex, found_label, dist_below}
+
+-- a walk that was followed in the reversed graph, read backwards
+pub path_of_followed : (g h : Graph) (s v : ℕ) (old added path : List ℕ) → h ≡ reversed g → Adds h s v old added → old ≡ [] → path ≡ reverse added → IsFirst g s path v
+path_of_followed g h s v old added path same adds nothing is =
+    let walk : added ≡ adds.walk = adds.is ∙ ap (λ (l : List ℕ). l ++ adds.walk) nothing in
+    let turned : path ≡ reverse adds.walk = is ∙ ap (λ (l : List ℕ). reverse l) walk in
+    subst (λ (l : List ℕ). IsFirst g s l v) (sym turned)
+    (IsFirst-unreversed g s v adds.walk (subst (λ (x : Graph). IsLast x v adds.walk s) same adds.last))
+
+pub vertex_inside : (g : Graph) (s v : ℕ) (radius : Option ℕ) (b : Reached) → IsTreeFrom g s radius b → IsInside g radius s v → IsVertex g.vertices v
+vertex_inside g s v radius b tree inside = inside_vertex g radius s v tree.limits.is_graph tree.root inside
+
+pub labelled_to : (g : Graph) (t v : ℕ) (radius : Option ℕ) (b : Reached) (labels : List (Option ℕ)) → labels ≡ b.labels → IsTreeTo g t radius b → IsInside g radius v t → IsSome (label_at labels v)
+labelled_to g t v radius b labels kept tree inside =
+    subst (λ (l : List (Option ℕ)). IsSome (label_at l v)) (sym kept)
+    (some_label (reversed g) t v radius b.labels (label_at b.labels v) tree.ball.labelled refl (IsInside-reversed g t v radius inside))
+
+-- the two halves of a path through v
+pub via_of_halves : (g : Graph) (s t v : ℕ) (front path : List ℕ) → IsVertex g.vertices v → IsFirst g s front v → Adds g t v front path → IsVia g s t v path
+via_of_halves g s t v front path vertex first adds =
+    record { vertex = vertex; front = front; back = adds.walk; first = first; last = adds.last; joined = adds.is }
+
+found_in : (g : Graph) (s t : ℕ) (found : Option (List (Option ℕ))) (labels : List (Option ℕ)) → IsFoundTo g s t found → found ≡ Some labels → IsLabelledTo g s t labels
+found_in g s t found labels h is = subst (λ (o : Option (List (Option ℕ))). IsFoundTo g s t o) is h
+
+pub rooted_found : (g : Graph) (s t : ℕ) (found : Option (List (Option ℕ))) (labels : List (Option ℕ)) → IsWithinLimits g → IsFoundTo g s t found → found ≡ Some labels → IsRooted (reversed g) s labels
+rooted_found g s t found labels limits h is =
+    let hit = found_in g s t found labels h is in
+    rooted_from_source g s (Some hit.distance) labels limits hit.labelled
+
+-- the label of the target is the length of its canonical path, and no distance is long
+pub record IsLengthOf (g : Graph) (s t length : ℕ) : Type 0 where
+  pub every : (p : List ℕ) → IsFirst g s p t → length ≡ walk_length g p
+  pub short : length < 2 ^ 57
+
+pub length_found : (g : Graph) (s t length : ℕ) (found : Option (List (Option ℕ))) (labels : List (Option ℕ)) → IsWithinLimits g → IsFoundTo g s t found → found ≡ Some labels → label_at labels t ≡ Some length → IsLengthOf g s t length
+length_found g s t length found labels limits h is label =
+    let hit = found_in g s t found labels h is in
+    let both : Some hit.distance ≡ Some length = sym (found_label g s t labels (label_at labels t) hit refl) ∙ label in
+    let same : hit.distance ≡ length = cc in
+    record {
+      every = (λ p first. sym same ∙ IsDist-same g s t hit.distance (walk_length g p) hit.dist (dist_of_shortest g s t p first.shortest));
+      short = subst (λ (n : ℕ). n < 2 ^ 57) same (dist_below g s t hit.distance (2 ^ 57) (dists_below g limits) hit.dist);
+    }
+
+-- a label is a distance, and so it isn't long
+pub label_short : (g : Graph) (radius : Option ℕ) (u v : ℕ) (o : Option ℕ) → IsWithinLimits g → IsLabel g radius u v o → IfSome o (λ d. d < 2 ^ 57)
+label_short g radius u v None limits h = tt
+label_short g radius u v (Some d) limits h = dist_below g u v d (2 ^ 57) (dists_below g limits) h.0

@@ -1,0 +1,346 @@
+//! The two trees of a query.
+
+ghost use Rattle.std.specs.Prelude.{◌≡◌, ◌<◌, ◌^◌, IfOk, IfSome, OnOk};
+ghost use Rattle.road_model.specs.Graph.{IsVertex};
+ghost use Rattle.road_model.specs.Canonical.{IsFirst};
+ghost use Rattle.canonical_trees.specs.Tight.{Adds};
+ghost use Rattle.canonical_trees.specs.Trees.{IsInside, IsLabel, IsMembersFrom, IsMembersTo, IsSearched};
+ghost use Rattle.canonical_trees.specs.Trees.{IsFromStep, IsToStep, IsFromArc, IsToArc};
+
+use crate::descent::{follow, step_down};
+use crate::path::path_from;
+use forward_star::Star;
+use road_model::{ArcNo, NoMemory, Step, Vertex, VertexList};
+use std::alloc::Global;
+use std::marker::Model;
+use tree_search::Ball;
+use tree_search::search::ball;
+
+/// No distance of a star is as long as this.
+const ABOVE_ALL: u64 = 144115188075855872;
+
+/// The canonical paths from a source, to the vertices within a radius.
+#[derive(Drop)]
+pub struct FromTree<'a> {
+    star: &'a Star,
+    source: Vertex,
+    radius: Option<u64>,
+    ball: Ball,
+}
+
+impl<'a> Model for FromTree<'a> {
+    ghost use Rattle.canonical_trees.specs.Trees.{Tree, IsTreeFrom};
+
+    ghost Value = { Tree };
+
+    ghost view = { λ t. record { graph = t.star.now; root = t.source; radius = t.radius } };
+
+    ghost invariant = { λ t. IsTreeFrom t.star.now t.source t.radius t.ball };
+}
+
+/// The canonical paths to a target, from the vertices within a radius.
+#[derive(Drop)]
+pub struct ToTree<'a> {
+    star: &'a Star,
+    target: Vertex,
+    radius: Option<u64>,
+    ball: Ball,
+}
+
+impl<'a> Model for ToTree<'a> {
+    ghost use Rattle.canonical_trees.specs.Trees.{Tree, IsTreeTo};
+
+    ghost Value = { Tree };
+
+    ghost view = { λ t. record { graph = t.star.now; root = t.target; radius = t.radius } };
+
+    ghost invariant = { λ t. IsTreeTo t.star.now t.target t.radius t.ball };
+}
+
+/// A radius above every distance is none, so that a search may take any.
+fn searched(radius: Option<u64>) -> Option<u64>
+    ensures { IsSearched radius result }
+{
+    match radius {
+        Some(limit) if limit < ABOVE_ALL => Some(limit),
+        _ => None,
+    }
+}
+
+/// The tree from `s`. None as its radius is no limit. Takes the time of a search of the ball, and 8 bytes a vertex.
+pub fn tree_from<'a>(
+    alloc: Global,
+    star: &'a Star,
+    s: Vertex,
+    radius: Option<u64>,
+) -> Result<FromTree<'a>, NoMemory>
+    requires { IsVertex star.now.vertices s }
+    ensures { IfOk result
+        (λ tree. tree ≡ record { graph = star.now; root = s; radius = radius }) }
+{
+    let _limits = star.graph();
+    let ball = ball(alloc, star, s, searched(radius))?;
+    Ok(FromTree {
+        star,
+        source: s,
+        radius,
+        ball,
+    })
+}
+
+/// The tree to `t`. None as its radius is no limit. Takes the time of a search of the ball, and 8 bytes a vertex.
+pub fn tree_to<'a>(
+    alloc: Global,
+    star: &'a Star,
+    t: Vertex,
+    radius: Option<u64>,
+) -> Result<ToTree<'a>, NoMemory>
+    requires { IsVertex star.now.vertices t }
+    ensures { IfOk result
+        (λ tree. tree ≡ record { graph = star.now; root = t; radius = radius }) }
+{
+    let _limits = star.graph();
+    let ball = ball(alloc, &star.reversed(), t, searched(radius))?;
+    Ok(ToTree {
+        star,
+        target: t,
+        radius,
+        ball,
+    })
+}
+
+/// The tree from `s` and the tree to `t`, of one radius. None as the radius is no limit. Takes the time of the two
+/// searches, and 16 bytes a vertex.
+pub fn trees<'a>(
+    alloc: Global,
+    star: &'a Star,
+    s: Vertex,
+    t: Vertex,
+    radius: Option<u64>,
+) -> Result<TreePair<'a>, NoMemory>
+    requires source { IsVertex star.now.vertices s }
+    requires target { IsVertex star.now.vertices t }
+    ensures { IfOk result
+        (λ pair. pair ≡ record { graph = star.now; source = s; target = t; radius = radius }) }
+{
+    let from = tree_from(alloc, star, s, radius)?;
+    let to = tree_to(alloc, star, t, radius)?;
+    Ok(TreePair::of(from, to))
+}
+
+impl FromTree<'_> {
+    fn source(&self) -> Vertex
+        ensures source { result ≡ self.now.root }
+        ensures inside { IsVertex self.now.graph.vertices result }
+    {
+        self.source
+    }
+
+    fn label(&self, v: Vertex) -> Option<u64>
+        ensures label { IsLabel self.now.graph self.now.radius self.now.root v result }
+        ensures short { IfSome result (λ d. d < 2 ^ 57) }
+    {
+        self.ball.label(v)
+    }
+
+    fn members(&self) -> &VertexList
+        ensures { IsMembersFrom self.now.graph self.now.radius self.now.root result.now }
+    {
+        self.ball.members()
+    }
+
+    fn step(&self, v: Vertex) -> Option<Step>
+        ensures { IsFromStep self.now.graph self.now.radius self.now.root v result }
+    {
+        step_down(&self.star.reversed(), self.ball.labels(), self.source, v)
+    }
+
+    fn path(&self, alloc: Global, v: Vertex) -> Result<Vec<ArcNo>, NoMemory>
+        requires { IsInside self.now.graph self.now.radius self.now.root v }
+        ensures path { IfOk result (λ arcs. IsFirst self.now.graph self.now.root arcs.items v) }
+        ensures vertex { IsVertex self.now.graph.vertices v }
+    {
+        path_from(alloc, self.star, self.ball.labels(), self.source, v)
+    }
+}
+
+impl ToTree<'_> {
+    fn target(&self) -> Vertex
+        ensures target { result ≡ self.now.root }
+        ensures inside { IsVertex self.now.graph.vertices result }
+    {
+        self.target
+    }
+
+    fn label(&self, v: Vertex) -> Option<u64>
+        ensures label { IsLabel self.now.graph self.now.radius v self.now.root result }
+        ensures short { IfSome result (λ d. d < 2 ^ 57) }
+    {
+        self.ball.label(v)
+    }
+
+    fn members(&self) -> &VertexList
+        ensures { IsMembersTo self.now.graph self.now.radius self.now.root result.now }
+    {
+        self.ball.members()
+    }
+
+    fn step(&self, v: Vertex) -> Option<Step>
+        ensures { IsToStep self.now.graph self.now.radius v self.now.root result }
+    {
+        step_down(self.star, self.ball.labels(), self.target, v)
+    }
+
+    fn add_path(&self, v: Vertex, arcs: &mut Vec<ArcNo>) -> Result<(), NoMemory>
+        requires { IsInside self.now.graph self.now.radius v self.now.root }
+        ensures { OnOk result (Adds self.now.graph self.now.root v arcs.old.items arcs.new.items) }
+    {
+        follow(self.star, self.ball.labels(), self.target, v, arcs)
+    }
+}
+
+/// The tree from a source and the tree to a target, in one star, of one radius.
+#[derive(Drop)]
+pub struct TreePair<'a> {
+    from: FromTree<'a>,
+    to: ToTree<'a>,
+}
+
+impl<'a> Model for TreePair<'a> {
+    ghost use Rattle.std.specs.Prelude.{◌≡◌};
+    ghost use Rattle.canonical_trees.specs.Trees.{Trees};
+
+    ghost Value = { Trees };
+
+    ghost view = { λ p. record {
+      graph = p.from.graph;
+      source = p.from.root;
+      target = p.to.root;
+      radius = p.from.radius;
+    } };
+
+    ghost invariant = { λ p. (p.to.graph ≡ p.from.graph) × (p.to.radius ≡ p.from.radius) };
+}
+
+impl<'a> TreePair<'a> {
+    /// Puts two trees of one star and one radius together. Takes no memory.
+    pub fn of(from: FromTree<'a>, to: ToTree<'a>) -> TreePair<'a>
+        requires one_star { from.graph ≡ to.graph }
+        requires one_radius { from.radius ≡ to.radius }
+        ensures { result
+            ≡ record {
+              graph = from.entry.graph;
+              source = from.entry.root;
+              target = to.entry.root;
+              radius = from.entry.radius;
+            } }
+    {
+        TreePair { from, to }
+    }
+
+    /// The vertices of the ball from the source.
+    pub fn from_members(&self) -> &VertexList
+        ensures { IsMembersFrom self.now.graph self.now.radius self.now.source result.now }
+    {
+        self.from.members()
+    }
+
+    /// The vertices of the ball to the target.
+    pub fn to_members(&self) -> &VertexList
+        ensures { IsMembersTo self.now.graph self.now.radius self.now.target result.now }
+    {
+        self.to.members()
+    }
+
+    /// The distance from the source; none outside its ball. Constant time.
+    pub fn from_label(&self, v: Vertex) -> Option<u64>
+        ensures label { IsLabel self.now.graph self.now.radius self.now.source v result }
+        ensures short { IfSome result (λ d. d < 2 ^ 57) }
+    {
+        self.from.label(v)
+    }
+
+    /// The distance to the target; none outside its ball. Constant time.
+    pub fn to_label(&self, v: Vertex) -> Option<u64>
+        ensures label { IsLabel self.now.graph self.now.radius v self.now.target result }
+        ensures short { IfSome result (λ d. d < 2 ^ 57) }
+    {
+        self.to.label(v)
+    }
+
+    /// The last arc of the canonical path from the source, seen from `v`: its `head` is the vertex before. None
+    /// outside the ball, and at the source. Takes the time of the arcs into `v`.
+    pub fn from_step(&self, v: Vertex) -> Option<Step>
+        ensures { IsFromStep self.now.graph self.now.radius self.now.source v result }
+    {
+        self.from.step(v)
+    }
+
+    /// The first arc of the canonical path to the target. None outside the ball, and at the target. Takes the time
+    /// of the arcs out of `v`.
+    pub fn to_step(&self, v: Vertex) -> Option<Step>
+        ensures { IsToStep self.now.graph self.now.radius v self.now.target result }
+    {
+        self.to.step(v)
+    }
+
+    /// The number of the last arc of the canonical path from the source. None outside the ball, and at the source.
+    pub fn from_arc(&self, v: Vertex) -> Option<ArcNo>
+        ensures { IsFromArc self.now.graph self.now.radius self.now.source v result }
+    {
+        let step = self.from_step(v)?;
+        Some(step.arc)
+    }
+
+    /// The number of the first arc of the canonical path to the target. None outside the ball, and at the target.
+    pub fn to_arc(&self, v: Vertex) -> Option<ArcNo>
+        ensures { IsToArc self.now.graph self.now.radius v self.now.target result }
+    {
+        let step = self.to_step(v)?;
+        Some(step.arc)
+    }
+
+    /// The star that both trees are of.
+    pub fn star(&self) -> &'a Star
+        ensures { result.now ≡ self.now.graph }
+    {
+        self.from.star
+    }
+
+    /// The vertex that the first tree is from.
+    pub fn source(&self) -> Vertex
+        ensures source { result ≡ self.now.source }
+        ensures inside { IsVertex self.now.graph.vertices result }
+    {
+        self.from.source()
+    }
+
+    /// The vertex that the second tree is to.
+    pub fn target(&self) -> Vertex
+        ensures target { result ≡ self.now.target }
+        ensures inside { IsVertex self.now.graph.vertices result }
+    {
+        self.to.target()
+    }
+
+    /// The canonical path from the source to a vertex inside its ball.
+    pub(crate) fn path_from_source(&self, alloc: Global, v: Vertex) -> Result<Vec<ArcNo>, NoMemory>
+        requires { IsInside self.now.graph self.now.radius self.now.source v }
+        ensures path { IfOk result (λ arcs. IsFirst self.now.graph self.now.source arcs.items v) }
+        ensures vertex { IsVertex self.now.graph.vertices v }
+    {
+        self.from.path(alloc, v)
+    }
+
+    /// Adds the canonical path from a vertex inside the ball of the target.
+    pub(crate) fn add_path_to_target(
+        &self,
+        v: Vertex,
+        arcs: &mut Vec<ArcNo>,
+    ) -> Result<(), NoMemory>
+        requires { IsInside self.now.graph self.now.radius v self.now.target }
+        ensures { OnOk result (Adds self.now.graph self.now.target v arcs.old.items arcs.new.items) }
+    {
+        self.to.add_path(v, arcs)
+    }
+}
