@@ -1,0 +1,5 @@
+pub mod Entries
+pub mod Steps
+pub mod Touches
+pub mod Searches
+pub mod Settles

@@ -1,0 +1,4 @@
+pub mod Order
+pub mod Ball
+pub mod Front
+pub mod Oracle

@@ -1,0 +1,71 @@
+ghost use Rattle.std.specs.Prelude.{◌≡◌, ◌^◌, IfOk};
+ghost use Rattle.road_model.specs.Graph.{LengthsBelow};
+ghost use Rattle.road_model.specs.Dist.{DistsBelow};
+
+use crate::front::{Front, Goal};
+use road_model::{Network, NoMemory, Oracle, Vertex};
+use std::alloc::Global;
+use std::marker::Model;
+
+/// An oracle that answers each question by a search, and needs nothing beforehand.
+///
+/// It keeps 8 bytes a vertex, and what the largest search so far needed; a question costs what its search
+/// visits.
+#[derive(Drop)]
+pub struct PlainOracle<'a, N: Network> {
+    net: &'a N,
+    front: Front,
+    asked: u64,
+}
+
+impl<'a, N: Network> Model for PlainOracle<'a, N> {
+    ghost use Rattle.tree_search.specs.Oracle.{Questions, IsReady};
+
+    ghost Value = { Questions };
+
+    ghost view = { λ o. record { graph = N.graph o.net.now; asked = o.asked } };
+
+    ghost invariant = { λ o. IsReady (N.graph o.net.now) o.front };
+}
+
+impl<'a, N: Network> PlainOracle<'a, N> {
+    /// An oracle for a network, not asked yet.
+    pub fn new(alloc: Global, net: &'a N) -> Result<PlainOracle<'a, N>, NoMemory>
+        requires short { LengthsBelow (N.graph net.now) (2 ^ 57) }
+        requires near { DistsBelow (N.graph net.now) (2 ^ 57) }
+        ensures { IfOk result (λ o. o ≡ record { graph = N.graph net.now; asked = 0 }) }
+    {
+        let front = Front::new(alloc, net.vertices())?;
+        Ok(PlainOracle {
+            net,
+            front,
+            asked: 0,
+        })
+    }
+}
+
+impl<'a, N: Network> Oracle for PlainOracle<'a, N> {
+    ghost graph = { λ o. o.graph };
+
+    ghost asked = { λ o. o.asked };
+
+    fn distance(&mut self, from: Vertex, to: Vertex) -> Result<Option<u64>, NoMemory> {
+        self.front.reset();
+        let goal = Goal {
+            root: from.number(),
+            target: to.number(),
+            radius: 144115188075855871,
+        };
+        let limit = self.front.run(self.net, goal)?;
+        self.asked = self.asked.saturating_add(1);
+        let label = self.front.labels[to.number() as usize];
+        if label > limit {
+            return Ok(None);
+        }
+        Ok(Some(label))
+    }
+
+    fn settled(&self) -> u64 {
+        self.front.settled
+    }
+}
