@@ -51,6 +51,14 @@ impl Star {
         &self.file
     }
 
+    // The `i`-th arc out of `v`.
+    #[inline(always)]
+    fn step_out(&self, v: Vertex, i: u32) -> Option<Step>
+        ensures { result ≡ step_at self.now v i }
+    {
+        self.forward.step(v, i)
+    }
+
     /// The `i`-th arc into `v`, counted from 0, by rising arc number; none behind the last. Its `head` is
     /// the arc's tail.
     #[inline(always)]
@@ -78,7 +86,7 @@ impl Network for Star {
 
     #[inline(always)]
     fn out(&self, v: Vertex, i: u32) -> Option<Step> {
-        self.forward.step(v, i)
+        self.step_out(v, i)
     }
 
     #[inline(always)]

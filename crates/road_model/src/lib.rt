@@ -28,3 +28,6 @@ pub use trail::Trail;
 
 /// Memory was refused. Nothing else is told by it.
 pub type NoMemory = std::alloc::AllocError;
+
+#[cfg(test)]
+mod tests;

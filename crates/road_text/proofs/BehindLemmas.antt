@@ -1,27 +1,13 @@
--- How far a text has been read, and what each step of a reader makes of it.
---   IsBehind most spare text rest before   the text goes on with this rest behind the lines before, which all
---                                          have their line feeds; of most bytes the lines to come may take spare
---   IsLongLine                             a line that the reader didn't show
--- A text and its rest are what a source tells, with what the reader holds.
-use Rattle.std.proofs.Common.{◌≡◌, ℕ, ◌+◌, ◌-◌, ◌<◌, ◌≤◌, true, false, List, [], ◌∷◌, ◌++◌, length, drop, take, Option, Some, None, refl, sym, ap, ◌∙◌, arith, append_assoc, subst}
+-- What each step of a reader makes of how far a text has been read.
+use Rattle.std.proofs.Common.{◌≡◌, ℕ, ◌+◌, true, false, List, [], ◌∷◌, ◌++◌, length, take, Option, refl, sym, ap, ◌∙◌, arith, append_assoc, subst}
 use Rattle.std.proofs.lemmas.List.{append-nil, length-append, take_at}
 use Rattle.road_text.specs.declared.line_reader.LineReader.{LineReader}
 use Rattle.road_text.specs.declared.line_reader.Advance.TheVariants.{Whole, Last, Long, End, Spent, Failed}
 use Rattle.road_text.specs.Lines.{lines_of, whole_lines, without_return, HasNoFeed}
 use Rattle.road_text.specs.Fields.{first_byte}
-use Rattle.road_text.specs.Reader.{held, line_of, budget, IsFresh, IsLine, IsLastLine, Steps}
-use Rattle.road_text.proofs.LineLemmas.{lines_of-line, lines_of-last, lines_of-nil, whole_lines-line, whole_lines-none, IsFirstOf, first_byte-without_return}
-
-pub record IsBehind (most spare : ℕ) (text rest : List ℕ) (before : List (List ℕ)) : Type 0 where
-  pub given : List ℕ
-  pub is : text ≡ given ++ rest
-  pub lines : (more : List ℕ) → lines_of (given ++ more) ≡ before ++ lines_of more
-  pub whole : (more : List ℕ) → whole_lines (given ++ more) ≡ before ++ whole_lines more
-  pub count : length given + spare ≡ most
-
-pub record IsLongLine (longest : ℕ) (line : List ℕ) (first : Option ℕ) : Type 0 where
-  pub long : longest < length line
-  pub first_is : IsFirstOf first (first_byte line)
+use Rattle.road_text.specs.Reader.{held, line_of, budget, IsFresh, IsLine, IsLastLine, IsFirstOf, IsLongLine, Steps}
+use Rattle.road_text.specs.Behind.{IsBehind, IsRead, IsBroken, IsOver}
+use Rattle.road_text.proofs.LineLemmas.{lines_of-line, lines_of-last, lines_of-nil, whole_lines-line, whole_lines-none, first_byte-without_return}
 
 -- nothing was read
 pub IsBehind-start : (most : ℕ) (text : List ℕ) → IsBehind most most text text []
@@ -42,25 +28,20 @@ pub IsBehind-line : (most spare new : ℕ) (text rest raw behind : List ℕ) (be
 IsBehind-line most spare new text rest raw behind before at' line count =
     let given : List ℕ = at'.given in
     let joined : (more : List ℕ) → (given ++ (raw ++ 10 ∷ [])) ++ more ≡ given ++ (raw ++ 10 ∷ more) =
-      λ more. append_assoc given (raw ++ 10 ∷ []) more ∙ ap (λ (r : List ℕ). given ++ r) (append_assoc raw (10 ∷ []) more) in
+    λ more. append_assoc given (raw ++ 10 ∷ []) more ∙ ap (λ (r : List ℕ). given ++ r) (append_assoc raw (10 ∷ []) more) in
     record {
       given = given ++ (raw ++ 10 ∷ []);
       is = at'.is ∙ ap (λ (r : List ℕ). given ++ r) line.is ∙ sym (joined behind);
       lines = λ more.
-        ap lines_of (joined more) ∙ at'.lines (raw ++ 10 ∷ more)
-        ∙ ap (λ (ls : List (List ℕ)). before ++ ls) (lines_of-line raw more line.no_feed)
-        ∙ sym (append_assoc before (without_return raw ∷ []) (lines_of more));
+          ap lines_of (joined more) ∙ at'.lines (raw ++ 10 ∷ more)
+          ∙ ap (λ (ls : List (List ℕ)). before ++ ls) (lines_of-line raw more line.no_feed)
+          ∙ sym (append_assoc before (without_return raw ∷ []) (lines_of more));
       whole = λ more.
-        ap whole_lines (joined more) ∙ at'.whole (raw ++ 10 ∷ more)
-        ∙ ap (λ (ls : List (List ℕ)). before ++ ls) (whole_lines-line raw more line.no_feed)
-        ∙ sym (append_assoc before (without_return raw ∷ []) (whole_lines more));
+          ap whole_lines (joined more) ∙ at'.whole (raw ++ 10 ∷ more)
+          ∙ ap (λ (ls : List (List ℕ)). before ++ ls) (whole_lines-line raw more line.no_feed)
+          ∙ sym (append_assoc before (without_return raw ∷ []) (whole_lines more));
       count = (let e = at'.count in omega (arith, length-append given (raw ++ 10 ∷ []), length-append raw (10 ∷ [])));
     }
-
--- the whole text was read, and these are its lines
-pub record IsRead (most : ℕ) (text : List ℕ) (all : List (List ℕ)) : Type 0 where
-  pub lines : lines_of text ≡ all
-  pub short : length text ≤ most
 
 pub IsRead-end : (most spare : ℕ) (text rest : List ℕ) (before : List (List ℕ)) → IsBehind most spare text rest before → rest ≡ [] → IsRead most text before
 IsRead-end most spare text rest before at' none = record {
@@ -74,17 +55,6 @@ IsRead-last most spare new text rest raw behind before at' line count = record {
   short = (let e = at'.count in omega (arith, ap length at'.is, length-append at'.given rest, ap length line.is));
 }
 
--- a read failed: these bytes were taken, and their whole lines are the lines before
-pub record IsBroken (text rest : List ℕ) (before : List (List ℕ)) : Type 0 where
-  pub taken : List ℕ
-  pub is : text ≡ taken ++ rest
-  pub whole : whole_lines taken ≡ before
-
--- there are more bytes than the lines may take, and the lines that end among those are the lines before
-pub record IsOver (most : ℕ) (text : List ℕ) (before : List (List ℕ)) : Type 0 where
-  pub long : most < length text
-  pub whole : whole_lines (take most text) ≡ before
-
 cut_whole : (most spare : ℕ) (text rest raw : List ℕ) (before : List (List ℕ)) (at' : IsBehind most spare text rest before) → HasNoFeed raw → whole_lines (at'.given ++ raw) ≡ before
 cut_whole most spare text rest raw before at' none =
     at'.whole raw ∙ ap (λ (ls : List (List ℕ)). before ++ ls) (whole_lines-none raw none) ∙ append-nil before
@@ -94,26 +64,26 @@ cut_whole most spare text rest raw before at' none =
 pub behind_whole : (most : ℕ) (old new : LineReader) (text rest after : List ℕ) (before : List (List ℕ)) → IsBehind most (budget old) text (held old ++ rest) before → Steps old new (held old ++ rest) after Whole → IsBehind most (budget new) text (held new ++ after) (before ++ line_of new ∷ [])
 behind_whole most old new text rest after before at' (raw, line, taken, shows) =
     subst (λ (l : List ℕ). IsBehind most (budget new) text (held new ++ after) (before ++ l ∷ [])) (sym shows.is)
-      (IsBehind-line most (budget old) (budget new) text (held old ++ rest) raw (held new ++ after) before at' line taken.count)
+    (IsBehind-line most (budget old) (budget new) text (held old ++ rest) raw (held new ++ after) before at' line taken.count)
 
 pub behind_long : (most : ℕ) (old new : LineReader) (text rest after : List ℕ) (before : List (List ℕ)) (first : Option ℕ) → IsBehind most (budget old) text (held old ++ rest) before → Steps old new (held old ++ rest) after (Long true first) → (line : List ℕ) × IsLongLine old.longest line first × IsBehind most (budget new) text (held new ++ after) (before ++ line ∷ [])
 behind_long most old new text rest after before first at' (raw, line, taken, long) = (
-    without_return raw,
-    record { long = long.long; first_is = subst (λ (o : Option ℕ). IsFirstOf o (first_byte (without_return raw))) (sym long.first_is) (first_byte-without_return raw) },
-    IsBehind-line most (budget old) (budget new) text (held old ++ rest) raw (held new ++ after) before at' line taken.count,
-  )
+  without_return raw,
+  record { long = long.long; first_is = subst (λ (o : Option ℕ). IsFirstOf o (first_byte (without_return raw))) (sym long.first_is) (first_byte-without_return raw) },
+  IsBehind-line most (budget old) (budget new) text (held old ++ rest) raw (held new ++ after) before at' line taken.count,
+)
 
 pub read_last : (most : ℕ) (old new : LineReader) (text rest after : List ℕ) (before : List (List ℕ)) → IsBehind most (budget old) text (held old ++ rest) before → Steps old new (held old ++ rest) after Last → IsRead most text (before ++ line_of new ∷ [])
 read_last most old new text rest after before at' (raw, line, taken, shows) =
     subst (λ (l : List ℕ). IsRead most text (before ++ l ∷ [])) (sym shows.is)
-      (IsRead-last most (budget old) (budget new) text (held old ++ rest) raw (held new ++ after) before at' line taken.count)
+    (IsRead-last most (budget old) (budget new) text (held old ++ rest) raw (held new ++ after) before at' line taken.count)
 
 pub read_long : (most : ℕ) (old new : LineReader) (text rest after : List ℕ) (before : List (List ℕ)) (first : Option ℕ) → IsBehind most (budget old) text (held old ++ rest) before → Steps old new (held old ++ rest) after (Long false first) → (line : List ℕ) × IsLongLine old.longest line first × IsRead most text (before ++ line ∷ [])
 read_long most old new text rest after before first at' (raw, line, taken, long) = (
-    without_return raw,
-    record { long = long.long; first_is = subst (λ (o : Option ℕ). IsFirstOf o (first_byte (without_return raw))) (sym long.first_is) (first_byte-without_return raw) },
-    IsRead-last most (budget old) (budget new) text (held old ++ rest) raw (held new ++ after) before at' line taken.count,
-  )
+  without_return raw,
+  record { long = long.long; first_is = subst (λ (o : Option ℕ). IsFirstOf o (first_byte (without_return raw))) (sym long.first_is) (first_byte-without_return raw) },
+  IsRead-last most (budget old) (budget new) text (held old ++ rest) raw (held new ++ after) before at' line taken.count,
+)
 
 pub read_end : (most : ℕ) (old new : LineReader) (text rest after : List ℕ) (before : List (List ℕ)) → IsBehind most (budget old) text (held old ++ rest) before → Steps old new (held old ++ rest) after End → IsRead most text before
 read_end most old new text rest after before at' step = IsRead-end most (budget old) text (held old ++ rest) before at' step.0

@@ -1,7 +1,7 @@
 -- How the fields of a line begin.
-use Rattle.std.proofs.Common.{◌≡◌, ℕ, ◌+◌, ◌<◌, ◌≤◌, Bool, true, false, cond, List, [], ◌∷◌, ◌++◌, length, get_or, drop, take, Option, Some, None, refl, sym, ap, ◌∙◌, arith, ⊎_elim, ◌-◌}
+use Rattle.std.proofs.Common.{◌≡◌, ℕ, ◌+◌, ◌<◌, ◌≤◌, true, false, cond, List, [], ◌∷◌, ◌++◌, length, get_or, drop, Some, None, refl, sym, ap, ◌∙◌, arith, ⊎_elim, ◌-◌}
 use Rattle.std.specs.Prelude.{filter}
-use Rattle.std.specs.List.{slice_split, onto_first, AllByRecursion, between}
+use Rattle.std.specs.List.{slice_split, AllByRecursion, between}
 use Rattle.std.proofs.lemmas.List.{drop_more, drop_all, drop-drop, take-append-drop, append-nil}
 use Rattle.std.proofs.lemmas.List.Edits.{between_more, length-between}
 use Rattle.std.proofs.lemmas.Bool.{cases_lt, both_ways}
@@ -81,22 +81,22 @@ fields_of-found line from to lt high h stops =
     let some : 0 < length piece = omega (arith, length-between line from to) in
     let parts : drop from line ≡ piece ++ drop to line = between-drop line from to (omega arith) in
     ⊎_elim
-      (λ (below : to < length line).
-        let rest : drop to line ≡ get_or line to 0 ∷ drop (to + 1) line = drop_more line to 0 below in
-        let blank : is_blank (get_or line to 0) ≡ true = stops below in
-        ap fields_of (parts ∙ ap (λ (r : List ℕ). piece ++ r) rest) ∙ fields_of-field piece (get_or line to 0) (drop (to + 1) line) some h blank ∙ ap (λ (fs : List (List ℕ)). piece ∷ fs) (fields_of-passed line to below blank))
-      (λ (past : length line ≤ to).
-        ap fields_of (parts ∙ ap (λ (r : List ℕ). piece ++ r) (drop_all to line past) ∙ append-nil piece) ∙ fields_of-last piece some h ∙ ap (λ (fs : List (List ℕ)). piece ∷ fs) (sym (fields_of-past line to past)))
-      (cases_lt to (length line))
+    (λ (below : to < length line).
+    let rest : drop to line ≡ get_or line to 0 ∷ drop (to + 1) line = drop_more line to 0 below in
+    let blank : is_blank (get_or line to 0) ≡ true = stops below in
+    ap fields_of (parts ∙ ap (λ (r : List ℕ). piece ++ r) rest) ∙ fields_of-field piece (get_or line to 0) (drop (to + 1) line) some h blank ∙ ap (λ (fs : List (List ℕ)). piece ∷ fs) (fields_of-passed line to below blank))
+    (λ (past : length line ≤ to).
+    ap fields_of (parts ∙ ap (λ (r : List ℕ). piece ++ r) (drop_all to line past) ∙ append-nil piece) ∙ fields_of-last piece some h ∙ ap (λ (fs : List (List ℕ)). piece ∷ fs) (sym (fields_of-past line to past)))
+    (cases_lt to (length line))
 
 pub fields_of-none : (line : List ℕ) (from to : ℕ) → from ≡ to → (from < length line → is_blank (get_or line from 0) ≡ false) → (to < length line → is_blank (get_or line to 0) ≡ true) → fields_of (drop from line) ≡ []
 fields_of-none line from to same starts stops =
     ⊎_elim
-      (λ (below : from < length line).
-        let yes : is_blank (get_or line from 0) ≡ true = rw same (stops (omega arith)) in
-        absurd (both_ways (is_blank (get_or line from 0)) (starts below) yes))
-      (λ (past : length line ≤ from). fields_of-past line from past)
-      (cases_lt from (length line))
+    (λ (below : from < length line).
+    let yes : is_blank (get_or line from 0) ≡ true = rw same (stops (omega arith)) in
+    absurd (both_ways (is_blank (get_or line from 0)) (starts below) yes))
+    (λ (past : length line ≤ from). fields_of-past line from past)
+    (cases_lt from (length line))
 
 -- a line in two parts
 pub first_byte-append : (a b : List ℕ) → first_byte (a ++ b) ≡ or_first (first_byte a) (first_byte b)

@@ -1,8 +1,7 @@
 -- What the buffer of a reader holds behind a step.
-use Rattle.std.proofs.Common.{◌≡◌, ℕ, ◌+◌, ◌-◌, ◌<◌, ◌≤◌, List, [], ◌∷◌, ◌++◌, length, get_or, drop, take, refl, sym, ap, ◌∙◌, arith, append_assoc, take-add}
+use Rattle.std.proofs.Common.{◌≡◌, ℕ, ◌+◌, ◌-◌, ◌≤◌, List, ◌++◌, drop, take, sym, ap, ◌∙◌, arith, append_assoc, take-add}
 use Rattle.std.specs.List.{between}
-use Rattle.std.proofs.lemmas.List.{take-take, length-take-le, drop-drop, drop-take}
-use Rattle.std.proofs.lemmas.List.Edits.{length-between}
+use Rattle.std.proofs.lemmas.List.{take-take, drop-drop, drop-take}
 use Rattle.std.proofs.lemmas.Slice.{between_from_start}
 
 -- a piece behind the held bytes, which stand at the front

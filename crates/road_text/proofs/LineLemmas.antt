@@ -1,8 +1,7 @@
 -- How a text goes on behind a line of it.
-use Rattle.std.proofs.Common.{◌≡◌, ◌≢◌, ℕ, ◌+◌, ◌-◌, ◌<◌, ◌≤◌, Bool, true, false, cond, eqb, List, [], ◌∷◌, ◌++◌, length, map, get_or, drop, take, Option, Some, None, refl, sym, ap, ◌∙◌, arith, ⊎_elim, append_assoc, subst, take-add, ◌⊎◌, inl, inr}
-use Rattle.std.specs.List.{AllByRecursion, onto_first}
+use Rattle.std.proofs.Common.{◌≡◌, ◌≢◌, ℕ, ◌+◌, ◌-◌, ◌<◌, ◌≤◌, List, [], ◌∷◌, ◌++◌, length, map, get_or, drop, take, Option, Some, None, refl, sym, ap, ◌∙◌, arith, ⊎_elim, subst, take-add, inl, inr}
+use Rattle.std.specs.List.{onto_first}
 use Rattle.std.proofs.lemmas.Bool.{ne_eqb}
-use Rattle.std.proofs.lemmas.List.{append-nil, length-append, length_push}
 use Rattle.std.proofs.lemmas.List.Elements.{All-from_recursion, recursion_from_All, All-append}
 use Rattle.memchr.specs.Find.{Nowhere, NoneBefore, Passes, is_byte}
 use Rattle.std.proofs.lemmas.List.{get_or_default, get_or-drop, get_or-take, length-take-le, length-drop, take-append-drop, take_all, drop_more, drop_all}
@@ -10,6 +9,7 @@ use Rattle.std.proofs.lemmas.Bool.{eq-eqb, eqb-true, cases_eq, cases_lt}
 use Rattle.road_text.specs.Filling.{IsFeedAt}
 use Rattle.road_text.specs.Fields.{first_byte, or_first}
 use Rattle.road_text.proofs.FieldLemmas.{first_byte-append, first_byte-stop}
+use Rattle.road_text.specs.Reader.{IsFirstOf}
 use Rattle.road_text.specs.Lines.{raw_lines, whole_raw_lines, onto_whole, without_return, lines_of, whole_lines, HasNoFeed}
 
 pub raw_lines-line : (raw rest : List ℕ) → HasNoFeed raw → raw_lines (raw ++ 10 ∷ rest) ≡ raw ∷ raw_lines rest
@@ -69,8 +69,8 @@ pub HasNoFeed-from_nowhere : (hay : List ℕ) (n : ℕ) → n ≤ length hay →
 HasNoFeed-from_nowhere hay n le none =
     let P : ℕ → Type 0 = λ b. b ≢ 10 in
     recursion_from_All P (take n hay) (λ k d lt.
-      let below : k < n = omega (arith, length-take-le n hay le) in
-      λ e. none k (omega arith) below (eq-eqb (get_or hay k 0) 10 (get_or_default hay k 0 d (omega arith) ∙ sym (get_or-take n hay k d below) ∙ e)))
+    let below : k < n = omega (arith, length-take-le n hay le) in
+    λ e. none k (omega arith) below (eq-eqb (get_or hay k 0) 10 (get_or_default hay k 0 d (omega arith) ∙ sym (get_or-take n hay k d below) ∙ e)))
 
 -- a front without a feed, and a rest without one
 pub HasNoFeed-behind : (bytes : List ℕ) (from n : ℕ) → from + n ≤ length bytes → HasNoFeed (take from bytes) → HasNoFeed (take n (drop from bytes)) → HasNoFeed (take (from + n) bytes)
@@ -107,18 +107,14 @@ without_return-nil (b ∷ bs) e = absurd (omega arith)
 pub without_return-length : (raw : List ℕ) → length raw ≤ length (without_return raw) + 1
 without_return-length raw =
     ⊎_elim
-      (λ (e : get_or raw (length raw - 1) 0 ≡ 13). omega (arith, ap length (without_return-return raw e), length-take-le (length raw - 1) raw (omega arith)))
-      (λ (ne : get_or raw (length raw - 1) 0 ≡ 13 → ⊥). omega (arith, ap length (without_return-plain raw ne)))
-      (cases_eq (get_or raw (length raw - 1) 0) 13)
+    (λ (e : get_or raw (length raw - 1) 0 ≡ 13). omega (arith, ap length (without_return-return raw e), length-take-le (length raw - 1) raw (omega arith)))
+    (λ (ne : get_or raw (length raw - 1) 0 ≡ 13 → ⊥). omega (arith, ap length (without_return-plain raw ne)))
+    (cases_eq (get_or raw (length raw - 1) 0) 13)
 
 -- bytes up to their first line feed, the feed, and what is behind it
 pub feed-parts : (bytes : List ℕ) (k : ℕ) → IsFeedAt bytes k → bytes ≡ take k bytes ++ 10 ∷ drop (k + 1) bytes
 feed-parts bytes k at' =
     sym (take-append-drop k bytes) ∙ ap (λ (r : List ℕ). take k bytes ++ r) (drop_more bytes k 0 at'.within ∙ ap (λ (b : ℕ). b ∷ drop (k + 1) bytes) at'.feed)
-
--- a dropped carriage return is the first byte that isn't blank only of a line that has no other
-pub record IsFirstOf (raw_first line_first : Option ℕ) : Type 0 where
-  pub cases : (raw_first ≡ line_first) ⊎ ((raw_first ≡ Some 13) × (line_first ≡ None))
 
 or_return : (first : Option ℕ) → IsFirstOf (or_first first (Some 13)) first
 or_return None = record { cases = inr (refl, refl) }
@@ -129,15 +125,15 @@ first_byte-without_return raw =
     let n : ℕ = length raw - 1 in
     let S : Option ℕ → Option ℕ → Type 0 = IsFirstOf in
     ⊎_elim
-      (λ (e : get_or raw n 0 ≡ 13).
-        ⊎_elim
-          (λ (some : 0 < length raw).
-            let parts : raw ≡ take n raw ++ 13 ∷ [] = sym (take-append-drop n raw) ∙ ap (λ (r : List ℕ). take n raw ++ r) (drop_more raw n 0 (omega arith) ∙ ap (λ (r : List ℕ). get_or raw n 0 ∷ r) (drop_all (n + 1) raw (omega arith)) ∙ ap (λ (b : ℕ). b ∷ []) e) in
-            let whole : first_byte raw ≡ or_first (first_byte (take n raw)) (Some 13) = ap first_byte parts ∙ first_byte-append (take n raw) (13 ∷ []) ∙ ap (or_first (first_byte (take n raw))) (first_byte-stop 13 [] refl) in
-            subst (λ (o : Option ℕ). IsFirstOf o (first_byte (without_return raw))) (sym whole) (subst (λ (r : List ℕ). IsFirstOf (or_first (first_byte (take n raw)) (Some 13)) (first_byte r)) (sym (without_return-return raw e)) (or_return (first_byte (take n raw)))))
-          (λ (none : length raw ≤ 0).
-            record { cases = inl (ap first_byte (sym (without_return-nil raw (omega arith)))) })
-          (cases_lt 0 (length raw)))
-      (λ (ne : get_or raw n 0 ≡ 13 → ⊥).
-        record { cases = inl (ap first_byte (sym (without_return-plain raw ne))) })
-      (cases_eq (get_or raw n 0) 13)
+    (λ (e : get_or raw n 0 ≡ 13).
+    ⊎_elim
+    (λ (some : 0 < length raw).
+    let parts : raw ≡ take n raw ++ 13 ∷ [] = sym (take-append-drop n raw) ∙ ap (λ (r : List ℕ). take n raw ++ r) (drop_more raw n 0 (omega arith) ∙ ap (λ (r : List ℕ). get_or raw n 0 ∷ r) (drop_all (n + 1) raw (omega arith)) ∙ ap (λ (b : ℕ). b ∷ []) e) in
+    let whole : first_byte raw ≡ or_first (first_byte (take n raw)) (Some 13) = ap first_byte parts ∙ first_byte-append (take n raw) (13 ∷ []) ∙ ap (or_first (first_byte (take n raw))) (first_byte-stop 13 [] refl) in
+    subst (λ (o : Option ℕ). IsFirstOf o (first_byte (without_return raw))) (sym whole) (subst (λ (r : List ℕ). IsFirstOf (or_first (first_byte (take n raw)) (Some 13)) (first_byte r)) (sym (without_return-return raw e)) (or_return (first_byte (take n raw)))))
+    (λ (none : length raw ≤ 0).
+    record { cases = inl (ap first_byte (sym (without_return-nil raw (omega arith)))) })
+    (cases_lt 0 (length raw)))
+    (λ (ne : get_or raw n 0 ≡ 13 → ⊥).
+    record { cases = inl (ap first_byte (sym (without_return-plain raw ne))) })
+    (cases_eq (get_or raw n 0) 13)

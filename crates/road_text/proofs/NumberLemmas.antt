@@ -1,15 +1,14 @@
 -- What the digits of a number are worth.
-use Rattle.std.proofs.Common.{◌≡◌, ℕ, ◌+◌, ◌-◌, ◌*◌, ◌^◌, ◌<◌, ◌≤◌, Bool, true, false, ◌&&◌, cond, ltb, leb, eqb, List, [], ◌∷◌, ◌++◌, length, get_or, drop, take, Option, Some, None, refl, sym, ap, ◌∙◌, arith, ⊎_elim, ◌⊎◌}
-use Rattle.std.specs.Prelude.{decimal}
+use Rattle.std.proofs.Common.{◌≡◌, ℕ, ◌+◌, ◌-◌, ◌*◌, ◌^◌, ◌<◌, ◌≤◌, Bool, true, false, ◌&&◌, cond, ltb, leb, List, length, get_or, drop, take, Some, None, refl, sym, ap, ◌∙◌, arith, ⊎_elim, ◌⊎◌}
 use Rattle.std.specs.Char.{digit_value, is_ascii_digit}
 use Rattle.std.specs.Str.{all_ascii_digits}
 use Rattle.std.specs.Str.Parse.{AllDigits, digits_value}
-use Rattle.std.proofs.lemmas.Bool.{lt-ltb, le-ltb, le-leb, lt-leb, cases_lt}
+use Rattle.std.proofs.lemmas.Bool.{lt-ltb, le-leb, lt-leb}
 use Rattle.std.proofs.lemmas.Bool.Decides.{nat_tests}
 use Rattle.std.proofs.lemmas.List.{take_all, drop_all, length-take-le, at_drop_more}
 use Rattle.std.proofs.lemmas.Int.Digits.{digits_more, digits_value_more}
-use Rattle.std.proofs.lemmas.Str.Parse.{IsNumeralModel, numerals_by_value, tells_digits, tells_all_ascii_digits, digits_value_short}
-use Rattle.road_text.specs.Numbers.{is_number, number_of, canonical_of, has_leading_zero}
+use Rattle.std.proofs.lemmas.Str.Parse.{IsNumeralModel, numerals_by_value, tells_digits, digits_value_short}
+use Rattle.road_text.specs.Numbers.{number_of, canonical_of, has_leading_zero}
 
 by_digits : IsNumeralModel (AllDigits 10) (digits_value 10)
 by_digits = numerals_by_value (AllDigits 10) tells_digits
@@ -25,9 +24,9 @@ pub number_of-wrong_length : (bs : List ℕ) → (length bs ≡ 0) ⊎ (19 < len
 unfolding number_of
 number_of-wrong_length bs h =
     ⊎_elim
-      (λ (none : length bs ≡ 0). rw (none) refl)
-      (λ (many : 19 < length bs). rw (lt-leb (length bs) 19 many, lt-ltb 0 (length bs) (omega arith)) refl)
-      h
+    (λ (none : length bs ≡ 0). rw (none) refl)
+    (λ (many : 19 < length bs). rw (lt-leb (length bs) 19 many, lt-ltb 0 (length bs) (omega arith)) refl)
+    h
 
 -- a byte that is no digit
 pub number_of-stop : (bs : List ℕ) (i : ℕ) → i < length bs → is_ascii_digit (get_or bs i 0) ≡ false → all_ascii_digits (drop i bs) ≡ all_ascii_digits bs → number_of bs ≡ None

@@ -1,12 +1,12 @@
 -- How a line that is too long ends.
-use Rattle.std.proofs.Common.{◌≡◌, ℕ, ◌+◌, ◌-◌, ◌<◌, ◌≤◌, true, false, List, [], ◌∷◌, ◌++◌, length, drop, take, Option, refl, sym, ap, ◌∙◌, arith, append_assoc}
+use Rattle.std.proofs.Common.{◌≡◌, ℕ, ◌+◌, ◌<◌, true, false, List, [], ◌∷◌, ◌++◌, length, drop, take, Option, sym, ap, ◌∙◌, arith, append_assoc}
 use Rattle.std.proofs.lemmas.List.{append-nil, length-append, length-take-le}
 use Rattle.road_text.specs.declared.line_reader.LineReader.{LineReader}
 use Rattle.road_text.specs.declared.line_reader.Advance.TheVariants.{Long}
 use Rattle.road_text.specs.declared.line_reader.Fill.TheVariants.{More, End}
-use Rattle.road_text.specs.Lines.{HasNoFeed, without_return}
+use Rattle.road_text.specs.Lines.{HasNoFeed}
 use Rattle.road_text.specs.Fields.{first_byte, or_first}
-use Rattle.road_text.specs.Reader.{held, budget, HasTaken, Steps}
+use Rattle.road_text.specs.Reader.{held, HasTaken, Steps}
 use Rattle.road_text.specs.Filling.{IsFeedAt, Gives}
 use Rattle.road_text.proofs.LineLemmas.{HasNoFeed-append, without_return-length, feed-parts}
 use Rattle.road_text.proofs.FieldLemmas.{first_byte-append}
@@ -20,11 +20,11 @@ pub record HasPassed (longest : ℕ) (raw : List ℕ) (first : Option ℕ) : Typ
 -- it was the last line
 pub Steps-long_last : (old mid new : LineReader) (raw : List ℕ) (first : Option ℕ) → HasPassed old.longest raw first → held new ≡ [] → HasTaken old new (length raw) → (x y z : List ℕ) → held old ++ x ≡ raw ++ y → Gives mid new y z End → Steps old new (held old ++ x) z (Long false first)
 Steps-long_last old mid new raw first passed empty taken x y z text gives = (
-    raw,
-    record { no_feed = passed.no_feed; some = (let h = passed.long in omega arith); is = text ∙ ap (λ (r : List ℕ). raw ++ r) gives.0 ∙ append-nil raw; nothing = ap (λ (r : List ℕ). r ++ z) empty ∙ gives.1 },
-    taken,
-    record { long = (let h = passed.long in omega (arith, without_return-length raw)); first_is = passed.first_is },
-  )
+  raw,
+  record { no_feed = passed.no_feed; some = (let h = passed.long in omega arith); is = text ∙ ap (λ (r : List ℕ). raw ++ r) gives.0 ∙ append-nil raw; nothing = ap (λ (r : List ℕ). r ++ z) empty ∙ gives.1 },
+  taken,
+  record { long = (let h = passed.long in omega (arith, without_return-length raw)); first_is = passed.first_is },
+)
 
 -- one piece more of the line
 pub HasPassed-more : (longest : ℕ) (raw piece : List ℕ) (first later : Option ℕ) → HasPassed longest raw first → HasNoFeed piece → later ≡ or_first first (first_byte piece) → HasPassed longest (raw ++ piece) later
@@ -46,8 +46,7 @@ Steps-long_whole old mid full new raw first later size passed empty feed e behin
     let more : HasPassed old.longest (raw ++ front) later = HasPassed-more old.longest raw front first later passed feed.before e in
     let size-is : length front ≡ size = length-take-le size (held full) (let h = feed.within in omega arith) in
     let rest : List ℕ = drop (size + 1) (held full) in
-    let parts : held full ++ z ≡ front ++ 10 ∷ (rest ++ z) = ap (λ (r : List ℕ). r ++ z) (feed-parts (held full) size feed) ∙ append_assoc front (10 ∷ rest) z in
-    (
+    let parts : held full ++ z ≡ front ++ 10 ∷ (rest ++ z) = ap (λ (r : List ℕ). r ++ z) (feed-parts (held full) size feed) ∙ append_assoc front (10 ∷ rest) z in (
       raw ++ front,
       record { no_feed = more.no_feed; is = passed_text old mid full raw empty x y z text gives ∙ ap (λ (r : List ℕ). raw ++ r) parts ∙ sym (append_assoc raw front (10 ∷ (rest ++ z))) ∙ ap (λ (r : List ℕ). (raw ++ front) ++ 10 ∷ (r ++ z)) (sym behind) },
       record { count = (let h = taken.count in omega (arith, length-append raw front)); longest = taken.longest },

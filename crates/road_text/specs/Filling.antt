@@ -5,15 +5,14 @@
 --   Grows              which bytes a try to read more put behind those that were held
 --   Gives              what such a try took from the source, where it tells
 --   Finishes           the held bytes are handed out at the source's end
-use Rattle.std.specs.Prelude.{◌≡◌, ℕ, ◌+◌, ◌<◌, ◌≤◌, Bool, true, false, List, [], ◌∷◌, ◌++◌, Option, length, take, slice_index}
+use Rattle.std.specs.Prelude.{◌≡◌, ℕ, ◌+◌, ◌<◌, Bool, true, false, List, [], ◌∷◌, ◌++◌, length, take, slice_index}
 use Rattle.road_text.specs.declared.line_reader.LineReader.{LineReader}
 use Rattle.road_text.specs.declared.line_reader.Advance.{Advance}
 use Rattle.road_text.specs.declared.line_reader.Advance.TheVariants.{Whole, Last, Long, End, Spent, Failed}
 use Rattle.road_text.specs.declared.line_reader.Fill.{Fill}
 use Rattle.road_text.specs.declared.line_reader.Fill.TheVariants as fill
-use Rattle.road_text.specs.Lines.{HasNoFeed, without_return}
-use Rattle.road_text.specs.Fields.{first_byte}
-use Rattle.road_text.specs.Reader.{held, line_of, budget, HasTaken, Shows, IsTooLong}
+use Rattle.road_text.specs.Lines.{HasNoFeed}
+use Rattle.road_text.specs.Reader.{held, budget, HasTaken, Shows, IsTooLong}
 
 pub record IsFeedAt (bytes : List ℕ) (k : ℕ) : Type 0 where
   pub within : k < length bytes

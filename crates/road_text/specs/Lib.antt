@@ -3,3 +3,4 @@ pub mod Fields
 pub mod Numbers
 pub mod Reader
 pub mod Filling
+pub mod Behind

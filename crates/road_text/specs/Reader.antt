@@ -2,12 +2,15 @@
 --   held r        the bytes that it has read and not handed out
 --   line_of r     the line that it shows
 --   budget r      how many bytes its lines may still take
+--   limit_of r    the longest line that it shows, its end not counted
 --   IsFresh       a new reader: it holds nothing, and its lines may take all the bytes that it allows
 --   IsLine        the text begins with this raw line and its line feed, and this is behind it
 --   IsLastLine    the text is this raw line, which has no line feed
+--   IsTooLong     the raw line isn't shown, since its line is longer than the limit
+--   IsLongLine    the same, of the line
 --   Steps         what one step did to a text, which is what the reader held and what the source had left
 -- Of a source that tells nothing only its count of faults is known.
-use Rattle.std.specs.Prelude.{◌≡◌, ℕ, ◌+◌, ◌-◌, ◌<◌, ◌≤◌, Bool, true, false, List, [], ◌∷◌, ◌++◌, Option, length, slice_range}
+use Rattle.std.specs.Prelude.{◌≡◌, ℕ, ◌+◌, ◌-◌, ◌<◌, ◌≤◌, true, false, List, [], ◌∷◌, ◌++◌, ◌⊎◌, Option, None, Some, length, slice_range}
 use Rattle.road_text.specs.declared.line_reader.LineReader.{LineReader}
 use Rattle.road_text.specs.declared.line_reader.Advance.{Advance}
 use Rattle.road_text.specs.declared.line_reader.Advance.TheVariants.{Whole, Last, Long, End, Spent, Failed}
@@ -23,10 +26,13 @@ line_of r = slice_range r.buffer.items r.line_start r.line_end
 abbrev pub budget : LineReader → ℕ
 budget r = (r.most - r.taken) + (r.end - r.start)
 
+abbrev pub limit_of : LineReader → ℕ
+limit_of r = r.longest
+
 pub record IsFresh (r : LineReader) (longest most : ℕ) : Type 0 where
   pub empty : held r ≡ []
   pub whole : budget r ≡ most
-  pub longest_is : r.longest ≡ longest
+  pub limit : limit_of r ≡ longest
 
 pub record IsLine (text raw behind : List ℕ) : Type 0 where
   pub no_feed : HasNoFeed raw
@@ -41,17 +47,26 @@ pub record IsLastLine (text raw behind : List ℕ) : Type 0 where
 -- the reader shows the raw line without its end, which is within the limit
 pub record Shows (r : LineReader) (raw : List ℕ) : Type 0 where
   pub is : line_of r ≡ without_return raw
-  pub short : length (line_of r) ≤ r.longest
+  pub short : length (line_of r) ≤ limit_of r
 
 -- the raw line is too long to be shown; first is its first byte that isn't blank
 pub record IsTooLong (longest : ℕ) (raw : List ℕ) (first : Option ℕ) : Type 0 where
   pub long : longest < length (without_return raw)
   pub first_is : first ≡ first_byte raw
 
+-- a dropped carriage return is the first byte that isn't blank only of a line that has no other
+pub record IsFirstOf (raw_first line_first : Option ℕ) : Type 0 where
+  pub cases : (raw_first ≡ line_first) ⊎ ((raw_first ≡ Some 13) × (line_first ≡ None))
+
+-- the same of the line that the raw line stands for
+pub record IsLongLine (longest : ℕ) (line : List ℕ) (first : Option ℕ) : Type 0 where
+  pub long : longest < length line
+  pub first_is : IsFirstOf first (first_byte line)
+
 -- a text goes on behind these bytes
 pub record HasTaken (old new : LineReader) (bytes : ℕ) : Type 0 where
   pub count : budget new + bytes ≡ budget old
-  pub longest : new.longest ≡ old.longest
+  pub longest : limit_of new ≡ limit_of old
 
 -- the bytes of the text that come before this rest have no line feed
 pub record IsCutOff (text raw rest : List ℕ) : Type 0 where
@@ -67,8 +82,8 @@ pub record IsSpent (text raw rest : List ℕ) (byte most : ℕ) : Type 0 where
 abbrev pub Steps : LineReader → LineReader → List ℕ → List ℕ → Advance → Type 0
 Steps old new text rest Whole = (raw : List ℕ) × IsLine text raw (held new ++ rest) × HasTaken old new (length raw + 1) × Shows new raw
 Steps old new text rest Last = (raw : List ℕ) × IsLastLine text raw (held new ++ rest) × HasTaken old new (length raw) × Shows new raw
-Steps old new text rest (Long true first) = (raw : List ℕ) × IsLine text raw (held new ++ rest) × HasTaken old new (length raw + 1) × IsTooLong old.longest raw first
-Steps old new text rest (Long false first) = (raw : List ℕ) × IsLastLine text raw (held new ++ rest) × HasTaken old new (length raw) × IsTooLong old.longest raw first
+Steps old new text rest (Long true first) = (raw : List ℕ) × IsLine text raw (held new ++ rest) × HasTaken old new (length raw + 1) × IsTooLong (limit_of old) raw first
+Steps old new text rest (Long false first) = (raw : List ℕ) × IsLastLine text raw (held new ++ rest) × HasTaken old new (length raw) × IsTooLong (limit_of old) raw first
 Steps old new text rest End = (text ≡ []) × (rest ≡ [])
 Steps old new text rest Spent = (raw : List ℕ) × (byte : ℕ) × IsSpent text raw rest byte (budget old)
 Steps old new text rest Failed = (raw : List ℕ) × IsCutOff text raw rest
@@ -82,3 +97,12 @@ GoesOn (Long false first) = ⊥
 GoesOn End = ⊥
 GoesOn Spent = ⊥
 GoesOn Failed = ⊥
+
+-- a line is shown
+abbrev pub IsShown : Advance → Type 0
+IsShown Whole = Unit {0}
+IsShown Last = Unit {0}
+IsShown (Long whole first) = ⊥
+IsShown End = ⊥
+IsShown Spent = ⊥
+IsShown Failed = ⊥

@@ -9,3 +9,6 @@ mod numbers;
 pub use fields::{field, first_byte};
 pub use line_reader::{Advance, LineReader, MOST_KEPT};
 pub use numbers::{canonical_number, number, push_number};
+
+#[cfg(test)]
+mod tests;

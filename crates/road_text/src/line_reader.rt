@@ -75,7 +75,7 @@ pub struct LineReader {
 }
 
 impl LineReader {
-    ghost use Rattle.road_text.specs.Reader.{held, line_of, budget, IsFresh, IsLine, HasTaken, Steps, GoesOn};
+    ghost use Rattle.road_text.specs.Reader.{held, line_of, budget, limit_of, IsFresh, IsLine, HasTaken, Steps, GoesOn, IsShown};
     ghost use Rattle.road_text.specs.Filling.{IsFeedAt, IsSameStock, HandsOut, IsKept, Grows, Gives, Finishes};
 
     /// A reader that shows lines of up to `longest` bytes, their ends not counted, and lets its
@@ -119,11 +119,7 @@ impl LineReader {
         }
         self.line_start = from;
         self.line_end = from + len;
-        if whole {
-            Advance::Whole
-        } else {
-            Advance::Last
-        }
+        if whole { Advance::Whole } else { Advance::Last }
     }
 
     /// Hands out the next raw line, whose line feed stands behind `size` of the held bytes.
@@ -242,7 +238,8 @@ impl LineReader {
         ensures steps { IfTold (S.left source.old) (S.left source.new)
             (λ rest after. Steps self.old self.new (held self.old ++ rest) after result) }
         ensures falls { GoesOn result → budget self.new < budget self.old }
-        ensures longest { self.new.longest ≡ self.old.longest }
+        ensures limit { limit_of self.new ≡ limit_of self.old }
+        ensures short { IsShown result → length (line_of self.new) ≤ limit_of self.new }
         ensures count { S.faults source.old ≤ S.faults source.new }
         ensures cause { result ≡ Advance.Failed
             → HasRisen (S.faults source.old) (S.faults source.new) }
@@ -252,7 +249,10 @@ impl LineReader {
         'pieces: loop {
             match self.fill(source) {
                 Fill::More => {}
-                Fill::End => return Advance::Long { whole: false, first },
+                Fill::End => return Advance::Long {
+                    whole: false,
+                    first,
+                },
                 Fill::Spent => return Advance::Spent,
                 Fill::Failed => return Advance::Failed,
             }
@@ -280,7 +280,8 @@ impl LineReader {
             (λ rest after. Steps self.old self.new (held self.old ++ rest) after result) }
         // A caller's loop ends, since its lines take up what the source may give.
         ensures falls { GoesOn result → budget self.new < budget self.old }
-        ensures longest { self.new.longest ≡ self.old.longest }
+        ensures limit { limit_of self.new ≡ limit_of self.old }
+        ensures short { IsShown result → length (line_of self.new) ≤ limit_of self.new }
         ensures count { S.faults source.old ≤ S.faults source.new }
         ensures cause { result ≡ Advance.Failed
             → HasRisen (S.faults source.old) (S.faults source.new) }

@@ -1,1 +1,5 @@
 pub mod LineLemmas
+pub mod LongLines
+pub mod InputLemmas
+pub mod ServingLemmas
+pub mod AnsweringLemmas

@@ -1,2 +1,9 @@
+pub mod Words
 pub mod Lines
 pub mod Replies
+pub mod Serving
+pub mod Served
+pub mod Input
+pub mod Statuses
+pub mod Loading
+pub mod Answering

@@ -11,6 +11,8 @@ use road_text::canonical_number;
 pub enum Asked {
     /// The canonical optimum from one vertex to another, by numbers that weren't tested.
     Best { from: u64, to: u64 },
+    /// The whole answer for two vertices, with the usual ratios.
+    Route { from: u64, to: u64 },
     /// Nothing that is known.
     Other,
 }
@@ -44,12 +46,17 @@ fn two(rest: &[u8]) -> Option<(u64, u64)>
 pub fn read_line(line: &[u8]) -> Asked
     ensures { result ≡ asked_of line.now }
 {
-    let word = b"optimum ";
-    if !line.starts_with(word) {
-        return Asked::Other;
+    if line.starts_with(b"optimum ") {
+        return match two(&line[8..]) {
+            Some((from, to)) => Asked::Best { from, to },
+            None => Asked::Other,
+        };
     }
-    match two(&line[word.len()..]) {
-        Some((from, to)) => Asked::Best { from, to },
-        None => Asked::Other,
+    if line.starts_with(b"route ") {
+        return match two(&line[6..]) {
+            Some((from, to)) => Asked::Route { from, to },
+            None => Asked::Other,
+        };
     }
+    Asked::Other
 }

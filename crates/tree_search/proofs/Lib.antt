@@ -3,3 +3,4 @@ pub mod Steps
 pub mod Touches
 pub mod Searches
 pub mod Settles
+pub mod Heaps

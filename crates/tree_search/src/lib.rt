@@ -12,3 +12,6 @@ pub mod search;
 
 pub use labels::{Ball, Labels};
 pub use oracle::PlainOracle;
+
+#[cfg(test)]
+mod tests;

@@ -12,8 +12,8 @@ returns-in-Some c =
     let Before : List ℕ → Type 0 = λ r. NoneBefore (Passes (is_byte 10) r) 0 (length r) k in
     let Hit : List ℕ → Type 0 = λ r. Passes (is_byte 10) r k in
     find_feed-some bytes from k c.requires.within c.requires.before
-      (subst Before (take_rest bytes from) c.in-Some.ensures.0)
-      (subst Hit (take_rest bytes from) c.in-Some.ensures.1)
+    (subst Before (take_rest bytes from) c.in-Some.ensures.0)
+    (subst Hit (take_rest bytes from) c.in-Some.ensures.1)
 
 pub returns-in-None : goal.returns-in-None
 returns-in-None c =

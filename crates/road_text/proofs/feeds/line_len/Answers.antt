@@ -11,6 +11,6 @@ pub returns-else-len-gt0-clause-value : goal.returns-else-len-gt0-clause-value
 returns-else-len-gt0-clause-value c =
     take_all (length c.args.raw.now) c.args.raw.now (omega arith)
     ∙ sym (elim c.else-len-gt0.branch [
-      else-len-gt0-via-then-len-gt0+else-raw-len-eq13 w ↦ without_return-plain c.args.raw.now w.if-raw-len-eq13.false
+      | else-len-gt0-via-then-len-gt0+else-raw-len-eq13 w ↦ without_return-plain c.args.raw.now w.if-raw-len-eq13.false
       | else-len-gt0-via-else-len-gt0 w ↦ without_return-nil c.args.raw.now (omega arith)
     ])

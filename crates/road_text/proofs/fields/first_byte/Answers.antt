@@ -1,4 +1,4 @@
-use Rattle.std.proofs.Common.{◌≡◌, get_or, arith, sym, ◌∙◌}
+use Rattle.std.proofs.Common.{sym, ◌∙◌}
 use Rattle.road_text.proofs.FieldLemmas.{first_byte-at, first_byte-past}
 use Rattle.road_text.proofs.fields.first_byte.Goals as goal
 

@@ -1,4 +1,4 @@
-use Rattle.std.proofs.Common.{◌≡◌, ℕ, ◌+◌, ◌*◌, ap, ◌∙◌, ◌^◌, ◌<◌, ◌-◌, true, false, length, get_or, take, sym, arith, rules, inl, inr}
+use Rattle.std.proofs.Common.{◌≡◌, ℕ, ◌+◌, ◌*◌, ap, ◌∙◌, ◌^◌, ◌<◌, ◌-◌, true, false, get_or, take, sym, arith, rules, inl, inr}
 use Rattle.std.specs.Char.{is_ascii_digit}
 use Rattle.std.specs.Str.Parse.{digits_value}
 use Rattle.std.proofs.lemmas.Bool.Decides.{nat_tests}
@@ -8,7 +8,7 @@ use Rattle.road_text.proofs.numbers.number.Goals.{then-is_empty-via-then-is_empt
 
 pub returns-then-is_empty : goal.returns-then-is_empty
 returns-then-is_empty c = elim c.then-is_empty.branch [
-  then-is_empty-via-then-is_empty w ↦ sym (number_of-wrong_length c.args.bytes.now (inl (let h = w.if-is_empty.ensures in grind (arith, nat_tests))))
+  | then-is_empty-via-then-is_empty w ↦ sym (number_of-wrong_length c.args.bytes.now (inl (let h = w.if-is_empty.ensures in grind (arith, nat_tests))))
   | then-is_empty-via-else-is_empty+then-bytes-gt-MOST_DIGITS w ↦ sym (number_of-wrong_length c.args.bytes.now (inr (omega arith)))
 ]
 

@@ -1,11 +1,11 @@
-use Rattle.std.proofs.Common.{◌≡◌, ℕ, ◌+◌, ◌<◌, ◌≤◌, List, [], ◌++◌, length, drop, take, arith, rules, sym, ap, subst, ◌∙◌, append_assoc}
+use Rattle.std.proofs.Common.{◌≡◌, ℕ, ◌+◌, ◌≤◌, List, [], ◌++◌, length, drop, take, arith, sym, ap, subst, ◌∙◌, append_assoc}
 use Rattle.std.specs.List.{between}
 use Rattle.std.proofs.lemmas.List.{length-append}
 use Rattle.std.proofs.lemmas.List.Edits.{length-between}
 use Rattle.road_io.proofs.ToldLemmas.{IfTold_both}
 use Rattle.road_text.specs.Lines.{HasNoFeed}
 use Rattle.road_text.specs.Fields.{first_byte, or_first}
-use Rattle.road_text.specs.Reader.{held, budget, HasTaken}
+use Rattle.road_text.specs.Reader.{held, HasTaken}
 use Rattle.road_text.specs.Filling.{IsFeedAt}
 use Rattle.road_text.proofs.HeldLemmas.{between-drop}
 use Rattle.road_text.proofs.SkipLemmas.{HasPassed, HasPassed-more, Steps-long_last, Steps-long_whole, passed_text}
@@ -48,13 +48,15 @@ pieces-preserved g c =
     let passed : HasPassed mid.longest raw c.pieces.first = record { no_feed = so_far.no_feed; first_is = so_far.first; long = so_far.long } in
     let none : HasNoFeed (held full) = subst (λ (ys : List ℕ). HasNoFeed (between full.start full.end ys)) c.deref-in-pieces.ensures.value c.in-None.ensures in
     let later : c.first_of-first-in-None.result ≡ or_first c.pieces.first (first_byte (held full)) = c.first_of-first-in-None.ensures ∙ ap (λ (ys : List ℕ). or_first c.pieces.first (first_byte (between full.start full.end ys))) c.deref-in-pieces.ensures.value in
-    let more = HasPassed-more mid.longest raw (held full) c.pieces.first c.first_of-first-in-None.result passed none later in
-    (raw ++ held full, record {
-      no_feed = more.no_feed;
-      first = more.first_is;
-      long = (let h = more.long in let k = c.fill.ensures.kept.longest in let l = c.forget-in-None.ensures.taken.longest in omega arith);
-      empty = c.forget-in-None.ensures.empty;
-      taken = record { count = (let h = so_far.taken.count in let k = c.fill.ensures.kept.budget_is in let l = c.forget-in-None.ensures.taken.count in omega (arith, length-append raw (held full))); longest = c.forget-in-None.ensures.taken.longest ∙ c.fill.ensures.kept.longest ∙ so_far.taken.longest };
-      told = IfTold_both _ _ _ _ _ _ (λ (x y z : List ℕ) (p : held old ++ x ≡ raw ++ y) (q : _). passed_text old mid full raw so_far.empty x y z p q ∙ sym (append_assoc raw (held full) z)) so_far.told c.in-More.ensures.told;
-      count = (let h = so_far.count in let k = c.fill.ensures.count in omega arith);
-    })
+    let more = HasPassed-more mid.longest raw (held full) c.pieces.first c.first_of-first-in-None.result passed none later in (
+      raw ++ held full,
+      record {
+        no_feed = more.no_feed;
+        first = more.first_is;
+        long = (let h = more.long in let k = c.fill.ensures.kept.longest in let l = c.forget-in-None.ensures.taken.longest in omega arith);
+        empty = c.forget-in-None.ensures.empty;
+        taken = record { count = (let h = so_far.taken.count in let k = c.fill.ensures.kept.budget_is in let l = c.forget-in-None.ensures.taken.count in omega (arith, length-append raw (held full))); longest = c.forget-in-None.ensures.taken.longest ∙ c.fill.ensures.kept.longest ∙ so_far.taken.longest };
+        told = IfTold_both _ _ _ _ _ _ (λ (x y z : List ℕ) (p : held old ++ x ≡ raw ++ y) (q : _). passed_text old mid full raw so_far.empty x y z p q ∙ sym (append_assoc raw (held full) z)) so_far.told c.in-More.ensures.told;
+        count = (let h = so_far.count in let k = c.fill.ensures.count in omega arith);
+      },
+    )

@@ -1,0 +1,2 @@
+pub mod ClearSubpaths
+pub mod TestedParts

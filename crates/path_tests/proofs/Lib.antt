@@ -1,0 +1,4 @@
+pub mod JoinedTrails
+pub mod SharedArcs
+pub mod Searches
+pub mod Stretches

@@ -1,0 +1,33 @@
+//! The program: hands the words, the files and the standard streams to [`route_server::run`], and says on standard
+//! error how it ended.
+#![tactic(auto)]
+
+use road_io::{FileShelf, StdinSource, StdoutSink};
+use route_server::{Status, run};
+use std::process::ExitCode;
+use std::{env, io};
+
+/// The words behind the program's name.
+fn words(rt: &HostRuntime) -> io::Result<Vec<String>> {
+    let mut words = Vec::new(rt.alloc());
+    for word in env::args(rt)?.skip(1) {
+        words.push(word)?;
+    }
+    Ok(words)
+}
+
+fn main(rt: HostRuntime) -> ExitCode {
+    let status = match words(&rt) {
+        Ok(words) => {
+            let mut shelf = FileShelf::new(&rt);
+            let mut input = StdinSource::new(&rt);
+            let mut output = StdoutSink::new(&rt);
+            run(&rt, rt.alloc(), &words, &mut shelf, &mut input, &mut output)
+        }
+        Err(_) => Status::Usage,
+    };
+    if status != Status::Done {
+        let _ = eprintln!(rt; "road: {status}");
+    }
+    ExitCode::from(status.number())
+}

@@ -1,0 +1,51 @@
+-- What the steps of a reader of lines make of the lines of an input.
+use Rattle.std.proofs.Common.{◌≡◌, ℕ, ◌<◌, true, false, Bool, List, [], ◌∷◌, ◌++◌, length, Option, refl, sym, ap, ◌∙◌, subst, arith}
+use Rattle.road_text.specs.declared.line_reader.LineReader.{LineReader}
+use Rattle.road_text.specs.declared.line_reader.Advance.TheVariants as advance
+use Rattle.road_text.specs.Reader.{held, line_of, budget, Steps, IsLongLine}
+use Rattle.road_text.specs.Behind.{IsBehind, IsRead, IsOver, IsBroken}
+use Rattle.road_text.proofs.BehindLemmas.{behind_whole, behind_long, read_last, read_long, read_end, over_spent, broken_failed}
+use Rattle.route_server.specs.declared.lines.Asked.{Asked}
+use Rattle.route_server.specs.declared.lines.Asked.TheVariants.{Best, Other}
+use Rattle.route_server.specs.declared.input.NextLine.TheVariants as the
+use Rattle.route_server.specs.Lines.{asked_of, most_input}
+use Rattle.route_server.specs.Input.{IsAt, OneMore, OneLast, Goes}
+use Rattle.route_server.proofs.LongLines.{asked_long}
+
+pub go_whole : (old new : LineReader) (asked : Asked) → asked ≡ asked_of (line_of new) → (rest after : List ℕ) → Steps old new (held old ++ rest) after advance.Whole → Goes old new rest after (the.More asked)
+go_whole old new asked e rest after step text before at' =
+    record { line = line_of new; is = e; behind = behind_whole most_input old new text rest after before at' step }
+
+pub go_last : (old new : LineReader) (asked : Asked) → asked ≡ asked_of (line_of new) → (rest after : List ℕ) → Steps old new (held old ++ rest) after advance.Last → Goes old new rest after (the.Last asked)
+go_last old new asked e rest after step text before at' =
+    record { line = line_of new; is = e; read = read_last most_input old new text rest after before at' step }
+
+long_line : (longest : ℕ) (line : List ℕ) (first : Option ℕ) → longest ≡ 1024 → IsLongLine longest line first → Other ≡ asked_of line
+long_line longest line first e h = let long : longest < length line = h.long in sym (asked_long line (omega arith))
+
+go_long : (old new : LineReader) (first : Option ℕ) → old.longest ≡ 1024 → (rest after : List ℕ) → Steps old new (held old ++ rest) after (advance.Long true first) → Goes old new rest after (the.More Other)
+go_long old new first e rest after step text before at' =
+    let found = behind_long most_input old new text rest after before first at' step in
+    record { line = found.0; is = long_line old.longest found.0 first e found.1; behind = found.2 }
+
+go_long_last : (old new : LineReader) (first : Option ℕ) → old.longest ≡ 1024 → (rest after : List ℕ) → Steps old new (held old ++ rest) after (advance.Long false first) → Goes old new rest after (the.Last Other)
+go_long_last old new first e rest after step text before at' =
+    let found = read_long most_input old new text rest after before first at' step in
+    record { line = found.0; is = long_line old.longest found.0 first e found.1; read = found.2 }
+
+pub go_long_told : (old new : LineReader) (whole : Bool) (first : Option ℕ) → whole ≡ true → old.longest ≡ 1024 → (rest after : List ℕ) → Steps old new (held old ++ rest) after (advance.Long whole first) → Goes old new rest after (the.More Other)
+go_long_told old new true first w e rest after step = go_long old new first e rest after step
+go_long_told old new false first w e rest after step = absurd (let h : false ≡ true = w in cc)
+
+pub go_long_last_told : (old new : LineReader) (whole : Bool) (first : Option ℕ) → whole ≡ false → old.longest ≡ 1024 → (rest after : List ℕ) → Steps old new (held old ++ rest) after (advance.Long whole first) → Goes old new rest after (the.Last Other)
+go_long_last_told old new true first w e rest after step = absurd (let h : true ≡ false = w in cc)
+go_long_last_told old new false first w e rest after step = go_long_last old new first e rest after step
+
+pub go_end : (old new : LineReader) (rest after : List ℕ) → Steps old new (held old ++ rest) after advance.End → Goes old new rest after the.End
+go_end old new rest after step text before at' = read_end most_input old new text rest after before at' step
+
+pub go_over : (old new : LineReader) (rest after : List ℕ) → Steps old new (held old ++ rest) after advance.Spent → Goes old new rest after the.Over
+go_over old new rest after step text before at' = over_spent most_input old new text rest after before at' step
+
+pub go_failed : (old new : LineReader) (rest after : List ℕ) → Steps old new (held old ++ rest) after advance.Failed → Goes old new rest after the.Failed
+go_failed old new rest after step text before at' = broken_failed most_input old new text rest after before at' step

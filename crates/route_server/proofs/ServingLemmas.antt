@@ -1,0 +1,162 @@
+-- A run over request lines: what stands written behind each, and how it may end.
+use Rattle.std.proofs.Common.{◌≡◌, ℕ, ◌<◌, ◌≤◌, List, [], ◌∷◌, ◌++◌, length, take, Option, refl, sym, ap, ◌∙◌, subst, arith, append_assoc}
+use Rattle.std.proofs.lemmas.List.{append-nil}
+use Rattle.road_model.specs.Graph.{Graph}
+use Rattle.road_io.specs.Told.{Told, IfTold}
+use Rattle.road_io.proofs.ToldLemmas.{IfTold_then, IfTold_both, told_same}
+use Rattle.road_text.specs.declared.line_reader.LineReader.{LineReader}
+use Rattle.road_text.specs.Lines.{lines_of, whole_lines}
+use Rattle.road_text.specs.Reader.{held, budget, IsFresh}
+use Rattle.road_text.specs.Behind.{IsBehind, IsRead, IsOver, IsBroken}
+use Rattle.road_text.proofs.BehindLemmas.{IsBehind-fresh}
+use Rattle.route_server.specs.declared.lines.Asked.{Asked}
+use Rattle.route_server.specs.declared.input.NextLine.TheVariants as next
+use Rattle.route_server.specs.declared.serve.Served.TheVariants as served
+use Rattle.route_server.specs.declared.status.Status.{Status}
+use Rattle.route_server.specs.declared.status.Status.TheVariants as status
+use Rattle.route_server.specs.Lines.{asked_of, most_input}
+use Rattle.route_server.specs.Serving.{IsReplyTo, IsReply, IsReplies, Written, WrittenFront, IsDone, IsCut, IsOverlong, IsUnwritten, IsStarved, Stops}
+use Rattle.route_server.specs.Served.{IsServed, IsServedFront, Serves}
+use Rattle.route_server.specs.Input.{IsAt, OneMore, OneLast, Goes}
+
+IsReplies-push : (g : Graph) (lines : List (List ℕ)) (bytes line reply : List ℕ) → IsReplies g lines bytes → IsReply g line reply → IsReplies g (lines ++ line ∷ []) (bytes ++ reply)
+IsReplies-push g [] bytes line reply h k =
+    (reply, [], k, refl, ap (λ (b : List ℕ). b ++ reply) h ∙ sym (append-nil reply))
+IsReplies-push g (l ∷ lines) bytes line reply h k =
+    (h.0, h.1 ++ reply, h.2, IsReplies-push g lines h.1 line reply h.3 k, ap (λ (b : List ℕ). b ++ reply) h.4 ∙ append_assoc h.0 h.1 reply)
+
+-- one line more has its reply
+written_push : (g : Graph) (before : List (List ℕ)) (line : List ℕ) (asked : Asked) (out mid now : List ℕ) → asked ≡ asked_of line → Written g before out mid → IsServed g asked mid now → Written g (before ++ line ∷ []) out now
+written_push g before line asked out mid now e w s = record {
+  bytes = w.bytes ++ s.bytes;
+  replies = IsReplies-push g before w.bytes line s.bytes w.replies (subst (λ (a : Asked). IsReplyTo g a s.bytes) e s.reply);
+  is = s.is ∙ (ap (λ (b : List ℕ). b ++ s.bytes) w.is ∙ append_assoc out w.bytes s.bytes);
+}
+
+written_front : (g : Graph) (before : List (List ℕ)) (line : List ℕ) (asked : Asked) (out mid now : List ℕ) → asked ≡ asked_of line → Written g before out mid → IsServedFront g asked mid now → WrittenFront g (before ++ line ∷ []) out now
+written_front g before line asked out mid now e w s = record {
+  bytes = w.bytes ++ s.bytes;
+  replies = IsReplies-push g before w.bytes line s.bytes w.replies (subst (λ (a : Asked). IsReplyTo g a s.bytes) e s.reply);
+  front = w.bytes ++ s.front;
+  behind = s.behind;
+  parts = ap (λ (b : List ℕ). w.bytes ++ b) s.parts ∙ sym (append_assoc w.bytes s.front s.behind);
+  is = s.is ∙ (ap (λ (b : List ℕ). b ++ s.front) w.is ∙ append_assoc out w.bytes s.front);
+}
+
+-- between two lines
+pub record Running (g : Graph) (reader : LineReader) (text rest out now : List ℕ) : Type 0 where
+  pub before : List (List ℕ)
+  pub at_line : IsAt reader text rest before
+  pub written : Written g before out now
+
+-- the same of what is told
+abbrev pub Runs : Graph → LineReader → Option Told → Option Told → Option Told → Option Told → Type 0
+Runs g reader a b c d = IfTold a b (λ text rest. IfTold c d (λ out now. Running g reader text rest out now))
+
+abbrev pub Ends : Graph → Option Told → Option Told → Option Told → Option Told → Status → Type 0
+Ends g a b c d how = IfTold a b (λ text rest. IfTold c d (λ out now. Stops g text rest out now how))
+
+nothing_written : (g : Graph) (out : List ℕ) → Written g [] out out
+nothing_written g out = record { bytes = []; replies = refl; is = sym (append-nil out) }
+
+pub runs_start : (g : Graph) (reader : LineReader) (a c : Option Told) → IsFresh reader 1024 most_input → Runs g reader a a c c
+runs_start g reader a c fresh =
+    told_same a _ (λ (text : List ℕ). told_same c _ (λ (out : List ℕ). record {
+      before = [];
+      at_line = IsBehind-fresh reader 1024 most_input text fresh;
+      written = nothing_written g out;
+    }))
+
+-- before the first line memory was refused
+pub ends_unread : (g : Graph) (a c : Option Told) → Ends g a a c c status.NoMemory
+ends_unread g a c =
+    told_same a _ (λ (text : List ℕ). told_same c _ (λ (out : List ℕ). record {
+      some = [];
+      others = lines_of text;
+      parts = refl;
+      written = nothing_written g out;
+    }))
+
+-- where a line and its reply follow, what then holds of all told bytes
+both_steps : (a b b' c d d' : Option Told) (P : List ℕ → List ℕ → List ℕ → List ℕ → Type 0) (Q : List ℕ → List ℕ → Type 0) (S : List ℕ → List ℕ → Type 0) (R : List ℕ → List ℕ → List ℕ → List ℕ → Type 0) → ((text rest after out mid now : List ℕ) → P text rest out mid → Q rest after → S mid now → R text after out now) → IfTold a b (λ text rest. IfTold c d (λ out now. P text rest out now)) → IfTold b b' Q → IfTold d d' S → IfTold a b' (λ text rest. IfTold c d' (λ out now. R text rest out now))
+both_steps a b b' c d d' P Q S R f h k l =
+    IfTold_both a b b' (λ text rest. IfTold c d (λ out now. P text rest out now)) Q (λ text rest. IfTold c d' (λ out now. R text rest out now))
+    (λ (text rest after : List ℕ) (p : IfTold c d (λ out now. P text rest out now)) (q : Q rest after).
+    IfTold_both c d d' (λ out now. P text rest out now) S (λ out now. R text after out now)
+    (λ (out mid now : List ℕ) (p' : P text rest out mid) (s : S mid now). f text rest after out mid now p' q s) p l) h k
+
+-- where nothing was written
+one_step : (a b b' c d : Option Told) (P : List ℕ → List ℕ → List ℕ → List ℕ → Type 0) (Q : List ℕ → List ℕ → Type 0) (R : List ℕ → List ℕ → List ℕ → List ℕ → Type 0) → ((text rest after out now : List ℕ) → P text rest out now → Q rest after → R text after out now) → IfTold a b (λ text rest. IfTold c d (λ out now. P text rest out now)) → IfTold b b' Q → IfTold a b' (λ text rest. IfTold c d (λ out now. R text rest out now))
+one_step a b b' c d P Q R f h k =
+    IfTold_both a b b' (λ text rest. IfTold c d (λ out now. P text rest out now)) Q (λ text rest. IfTold c d (λ out now. R text rest out now))
+    (λ (text rest after : List ℕ) (p : IfTold c d (λ out now. P text rest out now)) (q : Q rest after).
+    IfTold_then c d (λ out now. P text rest out now) (λ out now. R text after out now) (λ (out now : List ℕ) (p' : P text rest out now). f text rest after out now p' q) p) h k
+
+-- the lines before, and those that follow
+more_parts : (reader : LineReader) (text rest : List ℕ) (before : List (List ℕ)) (at' : IsAt reader text rest before) → lines_of text ≡ before ++ lines_of (held reader ++ rest)
+more_parts reader text rest before at' = ap lines_of at'.is ∙ at'.lines (held reader ++ rest)
+
+pub runs_more : (g : Graph) (old new : LineReader) (asked : Asked) (a b b' c d d' : Option Told) → Runs g old a b c d → IfTold b b' (λ rest after. Goes old new rest after (next.More asked)) → IfTold d d' (λ out now. Serves g asked out now served.Written) → Runs g new a b' c d'
+runs_more g old new asked a b b' c d d' h k l =
+    both_steps a b b' c d d' (Running g old) (λ rest after. Goes old new rest after (next.More asked)) (λ out now. Serves g asked out now served.Written) (Running g new)
+    (λ (text rest after out mid now : List ℕ) (r : Running g old text rest out mid) (q : Goes old new rest after (next.More asked)) (s : IsServed g asked mid now).
+    let one : OneMore new text after r.before asked = q text r.before r.at_line in
+    record { before = r.before ++ one.line ∷ []; at_line = one.behind; written = written_push g r.before one.line asked out mid now one.is r.written s }) h k l
+
+pub ends_more_fault : (g : Graph) (old new : LineReader) (asked : Asked) (a b b' c d d' : Option Told) → Runs g old a b c d → IfTold b b' (λ rest after. Goes old new rest after (next.More asked)) → IfTold d d' (λ out now. Serves g asked out now served.WriteFault) → Ends g a b' c d' status.WriteFault
+ends_more_fault g old new asked a b b' c d d' h k l =
+    both_steps a b b' c d d' (Running g old) (λ rest after. Goes old new rest after (next.More asked)) (λ out now. Serves g asked out now served.WriteFault) (λ text rest out now. Stops g text rest out now status.WriteFault)
+    (λ (text rest after out mid now : List ℕ) (r : Running g old text rest out mid) (q : Goes old new rest after (next.More asked)) (s : IsServedFront g asked mid now).
+    let one : OneMore new text after r.before asked = q text r.before r.at_line in
+    record { some = r.before ++ one.line ∷ []; others = lines_of (held new ++ after); parts = more_parts new text after (r.before ++ one.line ∷ []) one.behind; written = written_front g r.before one.line asked out mid now one.is r.written s }) h k l
+
+starved : (g : Graph) (text rest out mid now : List ℕ) (some others : List (List ℕ)) → lines_of text ≡ some ++ others → Written g some out mid → now ≡ mid → IsStarved g text rest out now
+starved g text rest out mid now some others e w s =
+    record { some = some; others = others; parts = e; written = record { bytes = w.bytes; replies = w.replies; is = s ∙ w.is } }
+
+pub ends_more_memory : (g : Graph) (old new : LineReader) (asked : Asked) (a b b' c d d' : Option Told) → Runs g old a b c d → IfTold b b' (λ rest after. Goes old new rest after (next.More asked)) → IfTold d d' (λ out now. Serves g asked out now served.NoMemory) → Ends g a b' c d' status.NoMemory
+ends_more_memory g old new asked a b b' c d d' h k l =
+    both_steps a b b' c d d' (Running g old) (λ rest after. Goes old new rest after (next.More asked)) (λ out now. Serves g asked out now served.NoMemory) (λ text rest out now. Stops g text rest out now status.NoMemory)
+    (λ (text rest after out mid now : List ℕ) (r : Running g old text rest out mid) (q : Goes old new rest after (next.More asked)) (s : now ≡ mid).
+    starved g text after out mid now r.before (lines_of (held old ++ rest)) (more_parts old text rest r.before r.at_line) r.written s) h k l
+
+pub ends_last : (g : Graph) (old new : LineReader) (asked : Asked) (a b b' c d d' : Option Told) → Runs g old a b c d → IfTold b b' (λ rest after. Goes old new rest after (next.Last asked)) → IfTold d d' (λ out now. Serves g asked out now served.Written) → Ends g a b' c d' status.Done
+ends_last g old new asked a b b' c d d' h k l =
+    both_steps a b b' c d d' (Running g old) (λ rest after. Goes old new rest after (next.Last asked)) (λ out now. Serves g asked out now served.Written) (λ text rest out now. Stops g text rest out now status.Done)
+    (λ (text rest after out mid now : List ℕ) (r : Running g old text rest out mid) (q : Goes old new rest after (next.Last asked)) (s : IsServed g asked mid now).
+    let one : OneLast text r.before asked = q text r.before r.at_line in
+    record { short = one.read.short; written = subst (λ (ls : List (List ℕ)). Written g ls out now) (sym one.read.lines) (written_push g r.before one.line asked out mid now one.is r.written s) }) h k l
+
+pub ends_last_fault : (g : Graph) (old new : LineReader) (asked : Asked) (a b b' c d d' : Option Told) → Runs g old a b c d → IfTold b b' (λ rest after. Goes old new rest after (next.Last asked)) → IfTold d d' (λ out now. Serves g asked out now served.WriteFault) → Ends g a b' c d' status.WriteFault
+ends_last_fault g old new asked a b b' c d d' h k l =
+    both_steps a b b' c d d' (Running g old) (λ rest after. Goes old new rest after (next.Last asked)) (λ out now. Serves g asked out now served.WriteFault) (λ text rest out now. Stops g text rest out now status.WriteFault)
+    (λ (text rest after out mid now : List ℕ) (r : Running g old text rest out mid) (q : Goes old new rest after (next.Last asked)) (s : IsServedFront g asked mid now).
+    let one : OneLast text r.before asked = q text r.before r.at_line in
+    record { some = r.before ++ one.line ∷ []; others = []; parts = one.read.lines ∙ sym (append-nil (r.before ++ one.line ∷ [])); written = written_front g r.before one.line asked out mid now one.is r.written s }) h k l
+
+pub ends_last_memory : (g : Graph) (old new : LineReader) (asked : Asked) (a b b' c d d' : Option Told) → Runs g old a b c d → IfTold b b' (λ rest after. Goes old new rest after (next.Last asked)) → IfTold d d' (λ out now. Serves g asked out now served.NoMemory) → Ends g a b' c d' status.NoMemory
+ends_last_memory g old new asked a b b' c d d' h k l =
+    both_steps a b b' c d d' (Running g old) (λ rest after. Goes old new rest after (next.Last asked)) (λ out now. Serves g asked out now served.NoMemory) (λ text rest out now. Stops g text rest out now status.NoMemory)
+    (λ (text rest after out mid now : List ℕ) (r : Running g old text rest out mid) (q : Goes old new rest after (next.Last asked)) (s : now ≡ mid).
+    starved g text after out mid now r.before (lines_of (held old ++ rest)) (more_parts old text rest r.before r.at_line) r.written s) h k l
+
+pub ends_end : (g : Graph) (old new : LineReader) (a b b' c d : Option Told) → Runs g old a b c d → IfTold b b' (λ rest after. Goes old new rest after next.End) → Ends g a b' c d status.Done
+ends_end g old new a b b' c d h k =
+    one_step a b b' c d (Running g old) (λ rest after. Goes old new rest after next.End) (λ text rest out now. Stops g text rest out now status.Done)
+    (λ (text rest after out now : List ℕ) (r : Running g old text rest out now) (q : Goes old new rest after next.End).
+    let read : IsRead most_input text r.before = q text r.before r.at_line in
+    record { short = read.short; written = subst (λ (ls : List (List ℕ)). Written g ls out now) (sym read.lines) r.written }) h k
+
+pub ends_over : (g : Graph) (old new : LineReader) (a b b' c d : Option Told) → Runs g old a b c d → IfTold b b' (λ rest after. Goes old new rest after next.Over) → Ends g a b' c d status.InputLong
+ends_over g old new a b b' c d h k =
+    one_step a b b' c d (Running g old) (λ rest after. Goes old new rest after next.Over) (λ text rest out now. Stops g text rest out now status.InputLong)
+    (λ (text rest after out now : List ℕ) (r : Running g old text rest out now) (q : Goes old new rest after next.Over).
+    let over : IsOver most_input text r.before = q text r.before r.at_line in
+    record { long = over.long; written = subst (λ (ls : List (List ℕ)). Written g ls out now) (sym over.whole) r.written }) h k
+
+pub ends_failed : (g : Graph) (old new : LineReader) (a b b' c d : Option Told) → Runs g old a b c d → IfTold b b' (λ rest after. Goes old new rest after next.Failed) → Ends g a b' c d status.ReadFault
+ends_failed g old new a b b' c d h k =
+    one_step a b b' c d (Running g old) (λ rest after. Goes old new rest after next.Failed) (λ text rest out now. Stops g text rest out now status.ReadFault)
+    (λ (text rest after out now : List ℕ) (r : Running g old text rest out now) (q : Goes old new rest after next.Failed).
+    let broken : IsBroken text after r.before = q text r.before r.at_line in
+    record { taken = broken.taken; is = broken.is; written = subst (λ (ls : List (List ℕ)). Written g ls out now) (sym broken.whole) r.written }) h k

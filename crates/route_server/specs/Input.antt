@@ -1,0 +1,42 @@
+-- How far the lines of an input have been read. Where the text goes on, behind the lines before, with what the
+-- reader holds and what the source has left, the next line
+--   More asked   is one more, asks this, and the text goes on behind it
+--   Last asked   is one more, asks this, and is the last
+--   End          isn't there
+--   Over         doesn't end among as many bytes as may be read
+--   Failed       couldn't be read
+use Rattle.std.specs.Prelude.{◌≡◌, ℕ, List, [], ◌∷◌, ◌++◌}
+use Rattle.road_text.specs.declared.line_reader.LineReader.{LineReader}
+use Rattle.road_text.specs.Reader.{held, budget}
+use Rattle.road_text.specs.Behind.{IsBehind, IsRead, IsOver, IsBroken}
+use Rattle.route_server.specs.declared.lines.Asked.{Asked}
+use Rattle.route_server.specs.declared.input.NextLine.{NextLine}
+use Rattle.route_server.specs.declared.input.NextLine.TheVariants as the
+use Rattle.route_server.specs.Lines.{asked_of, most_input}
+
+abbrev pub IsAt : LineReader → List ℕ → List ℕ → List (List ℕ) → Type 0
+IsAt reader text rest before = IsBehind most_input (budget reader) text (held reader ++ rest) before
+
+pub record OneMore (reader : LineReader) (text rest : List ℕ) (before : List (List ℕ)) (asked : Asked) : Type 0 where
+  pub line : List ℕ
+  pub is : asked ≡ asked_of line
+  pub behind : IsAt reader text rest (before ++ line ∷ [])
+
+pub record OneLast (text : List ℕ) (before : List (List ℕ)) (asked : Asked) : Type 0 where
+  pub line : List ℕ
+  pub is : asked ≡ asked_of line
+  pub read : IsRead most_input text (before ++ line ∷ [])
+
+abbrev pub Goes : LineReader → LineReader → List ℕ → List ℕ → NextLine → Type 0
+Goes old new rest after (the.More asked) = (text : List ℕ) (before : List (List ℕ)) → IsAt old text rest before → OneMore new text after before asked
+Goes old new rest after (the.Last asked) = (text : List ℕ) (before : List (List ℕ)) → IsAt old text rest before → OneLast text before asked
+Goes old new rest after the.End = (text : List ℕ) (before : List (List ℕ)) → IsAt old text rest before → IsRead most_input text before
+Goes old new rest after the.Over = (text : List ℕ) (before : List (List ℕ)) → IsAt old text rest before → IsOver most_input text before
+Goes old new rest after the.Failed = (text : List ℕ) (before : List (List ℕ)) → IsAt old text rest before → IsBroken text after before
+
+abbrev pub IsMore : NextLine → Type 0
+IsMore (the.More asked) = Unit {0}
+IsMore (the.Last asked) = ⊥
+IsMore the.End = ⊥
+IsMore the.Over = ⊥
+IsMore the.Failed = ⊥

@@ -1,0 +1,19 @@
+-- What loading a graph file answers, by the contents that the shelf has under its name.
+--   Loads None r            there is no such file: a read fault
+--   Loads (Some bytes) r    the star of the graph that the bytes give, or their first fault; a read fault and want
+--                           of memory may come instead
+use Rattle.std.specs.Prelude.{◌≡◌, ℕ, List, Option, Some, None, Result, Ok, Err}
+use Rattle.road_model.specs.Graph.{Graph}
+use Rattle.dimacs_reader.specs.declared.fault.GraphError.{GraphError}
+use Rattle.dimacs_reader.specs.declared.fault.GraphError.TheVariants.{Refused, ReadFault, NoMemory}
+use Rattle.dimacs_reader.specs.Gr.{gr_text}
+
+abbrev pub Loads : Option (List ℕ) → Result Graph GraphError → Type 0
+Loads None (Ok graph) = ⊥
+Loads None (Err (Refused fault)) = ⊥
+Loads None (Err ReadFault) = Unit {0}
+Loads None (Err NoMemory) = ⊥
+Loads (Some bytes) (Ok graph) = gr_text bytes ≡ Ok graph
+Loads (Some bytes) (Err (Refused fault)) = gr_text bytes ≡ Err fault
+Loads (Some bytes) (Err ReadFault) = Unit {0}
+Loads (Some bytes) (Err NoMemory) = Unit {0}

@@ -1,0 +1,13 @@
+-- The number that the process ends with.
+use Rattle.std.specs.Prelude.{ℕ}
+use Rattle.route_server.specs.declared.status.Status.{Status}
+use Rattle.route_server.specs.declared.status.Status.TheVariants.{Done, Usage, GraphRefused, ReadFault, WriteFault, NoMemory, InputLong}
+
+abbrev pub status_number : Status → ℕ
+status_number Done = 0
+status_number Usage = 2
+status_number (GraphRefused fault) = 3
+status_number ReadFault = 4
+status_number WriteFault = 5
+status_number NoMemory = 6
+status_number InputLong = 7

@@ -1,0 +1,50 @@
+//! The request lines of an input, one at a time.
+
+ghost use Rattle.std.specs.Prelude.{◌≡◌, ◌<◌, ◌≤◌, ◌++◌};
+ghost use Rattle.road_io.specs.Told.{IfTold};
+ghost use Rattle.road_io.specs.Count.{HasRisen};
+ghost use Rattle.road_text.specs.Reader.{held, budget};
+ghost use Rattle.route_server.specs.Input.{IsMore, Goes};
+
+use crate::lines::{Asked, read_line};
+use road_io::Source;
+use road_text::{Advance, LineReader};
+
+/// The longest line that is kept; a longer one asks nothing that is known.
+pub const MAX_LINE: usize = 1024;
+
+/// The next of the lines of an input.
+#[derive(Clone, Copy, Debug, PartialEq, Eq)]
+pub enum NextLine {
+    /// It asks this, and more lines may follow.
+    More(Asked),
+    /// It asks this, and is the last.
+    Last(Asked),
+    /// There is none.
+    End,
+    /// The input is too long.
+    Over,
+    /// A read failed.
+    Failed,
+}
+
+/// Reads the next line.
+pub fn next_line<S: Source>(reader: &mut LineReader, input: &mut S) -> NextLine
+    requires { reader.old.longest ≡ 1024 }
+    ensures goes { IfTold (S.left input.old) (S.left input.new)
+        (λ rest after. Goes reader.old reader.new rest after result) }
+    ensures falls { IsMore result → budget reader.new < budget reader.old }
+    ensures longest { reader.new.longest ≡ 1024 }
+    ensures count { S.faults input.old ≤ S.faults input.new }
+    ensures cause { result ≡ NextLine.Failed → HasRisen (S.faults input.old) (S.faults input.new) }
+{
+    match reader.advance(input) {
+        Advance::Whole => NextLine::More(read_line(reader.line())),
+        Advance::Last => NextLine::Last(read_line(reader.line())),
+        Advance::Long { whole: true, .. } => NextLine::More(Asked::Other),
+        Advance::Long { whole: false, .. } => NextLine::Last(Asked::Other),
+        Advance::End => NextLine::End,
+        Advance::Spent => NextLine::Over,
+        Advance::Failed => NextLine::Failed,
+    }
+}

@@ -1,0 +1,80 @@
+//! How a run ended.
+
+use dimacs_reader::{GraphFault, GraphKind};
+use std::fmt;
+
+/// How a run of the program ended.
+#[derive(Clone, Copy, Debug, PartialEq, Eq)]
+pub enum Status {
+    /// The work is whole.
+    Done,
+    /// The words aren't those of a command.
+    Usage,
+    /// The graph file has this fault, its first.
+    GraphRefused(GraphFault),
+    /// A read of the graph file or the input failed.
+    ReadFault,
+    /// A write of the output failed.
+    WriteFault,
+    /// Memory was refused.
+    NoMemory,
+    /// The input has more than 4294967296 bytes.
+    InputLong,
+}
+
+impl Status {
+    ghost use Rattle.std.specs.Prelude.{◌≡◌};
+    ghost use Rattle.route_server.specs.Statuses.{status_number};
+
+    /// The number that the process ends with.
+    pub fn number(&self) -> u8
+        ensures { result ≡ status_number self.now }
+    {
+        match self {
+            Status::Done => 0,
+            Status::Usage => 2,
+            Status::GraphRefused(_) => 3,
+            Status::ReadFault => 4,
+            Status::WriteFault => 5,
+            Status::NoMemory => 6,
+            Status::InputLong => 7,
+        }
+    }
+}
+
+impl fmt::Display for Status {
+    fn fmt<W: fmt::Write>(&self, f: &mut fmt::Formatter<W>) -> fmt::Result {
+        match self {
+            Status::Done => write!(f, "done"),
+            Status::Usage => write!(f, "usage"),
+            Status::GraphRefused(fault) => {
+                let line = fault.line;
+                let word = fault_word(fault.kind);
+                write!(f, "graph refused at line {line}: {word}")
+            }
+            Status::ReadFault => write!(f, "read fault"),
+            Status::WriteFault => write!(f, "write fault"),
+            Status::NoMemory => write!(f, "out of memory"),
+            Status::InputLong => write!(f, "input too long"),
+        }
+    }
+}
+
+/// The word for a kind of fault.
+fn fault_word(kind: GraphKind) -> &'static str {
+    match kind {
+        GraphKind::NoProblem => "no-problem",
+        GraphKind::SecondProblem => "second-problem",
+        GraphKind::BadLine => "bad-line",
+        GraphKind::BadNumber => "bad-number",
+        GraphKind::VertexRange => "vertex-range",
+        GraphKind::LengthZero => "length-zero",
+        GraphKind::LengthLarge => "length-large",
+        GraphKind::TooManyArcs => "too-many-arcs",
+        GraphKind::TooFewArcs => "too-few-arcs",
+        GraphKind::LimitVertices => "limit-vertices",
+        GraphKind::LimitArcs => "limit-arcs",
+        GraphKind::LineLong => "line-long",
+        GraphKind::FileLong => "file-long",
+    }
+}

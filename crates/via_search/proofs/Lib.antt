@@ -1,0 +1,11 @@
+pub mod Outcomes
+pub mod ViaPaths
+pub mod FewArcs
+pub mod Gathering
+pub mod Sorting
+pub mod SamePaths
+pub mod ViaTrails
+pub mod Refusals
+pub mod Names
+pub mod ListedRoutes
+pub mod Planned

@@ -1,0 +1,115 @@
+-- The path through a vertex, and the two lengths that it is made of.
+use Rattle.std.proofs.Common.{◌≡◌, ℕ, ◌+◌, ◌*◌, ◌<◌, ◌≤◌, ◌^◌, ◌⊎◌, List, [], ◌∷◌, ◌++◌, length, Option, Some, None, refl, sym, ap, ◌∙◌, subst, arith, get_or, ⊎_elim}
+use Rattle.std.proofs.lemmas.List.{append-nil}
+use Rattle.std.proofs.lemmas.Bool.{cases_lt}
+use Rattle.road_model.specs.declared.answer.Query.{Query}
+use Rattle.road_model.specs.Graph.{Graph}
+use Rattle.road_model.specs.Walk.{IsWalk, walk_length}
+use Rattle.road_model.specs.Dist.{IsDist}
+use Rattle.road_model.specs.Canonical.{IsFirst}
+use Rattle.road_model.specs.Places.{places, sums, trail_of, vertex_at, between, IsDistAt}
+use Rattle.road_model.specs.Alternatives.{IsVia, IsAdmissible}
+use Rattle.road_model.proofs.Walks.{IsWalk-append, walk_length-append}
+use Rattle.road_model.proofs.Dists.{IsDist-same, dist_of_shortest}
+use Rattle.road_model.proofs.CanonicalWalks.{IsFirst-unique, IsLast-unique}
+use Rattle.road_model.proofs.Parts.{place_after, sum_after, length-places}
+use Rattle.canonical_trees.specs.Trees.{Trees, IsInside, IsOutside, IsViaPath}
+use Rattle.tree_search.specs.Ball.{IsWithin, IsBeyond}
+use Rattle.via_search.specs.Candidates.{IsCandidate, IsNear}
+
+pub IsVia-unique : (g : Graph) (s t v : ℕ) (p q : List ℕ) → IsVia g s t v p → IsVia g s t v q → p ≡ q
+IsVia-unique g s t v p q h k =
+    let front : h.front ≡ k.front = IsFirst-unique g s v h.front k.front h.first k.first in
+    let back : h.back ≡ k.back = IsLast-unique g v t h.back k.back h.last k.last in
+    h.joined ∙ (ap (λ (x : List ℕ). x ++ h.back) front ∙ (ap (λ (x : List ℕ). k.front ++ x) back ∙ sym k.joined))
+
+pub via_walk : (g : Graph) (s t v : ℕ) (p : List ℕ) → IsVia g s t v p → IsWalk g s p t
+via_walk g s t v p h =
+    subst (λ (x : List ℕ). IsWalk g s x t) (sym h.joined)
+    (IsWalk-append g h.front h.back s v t h.first.shortest.walk h.last.shortest.walk)
+
+pub via_parts : (g : Graph) (s t v : ℕ) (p : List ℕ) (h : IsVia g s t v p) → walk_length g p ≡ walk_length g h.front + walk_length g h.back
+via_parts g s t v p h =
+    ap (λ (x : List ℕ). walk_length g x) h.joined ∙ walk_length-append g h.front h.back
+
+pub near_of_via : (g : Graph) (s t v a : ℕ) (p : List ℕ) (h : IsVia g s t v p) → IsDist g s v (Some a) → walk_length g h.front ≡ a
+near_of_via g s t v a p h d =
+    IsDist-same g s v (walk_length g h.front) a (dist_of_shortest g s v h.front h.first.shortest) d
+
+pub via_length : (g : Graph) (s t v a b : ℕ) (p : List ℕ) → IsVia g s t v p → IsDist g s v (Some a) → IsDist g v t (Some b) → walk_length g p ≡ a + b
+via_length g s t v a b p h d e =
+    let back : walk_length g h.back ≡ b = IsDist-same g v t (walk_length g h.back) b (dist_of_shortest g v t h.back h.last.shortest) e in
+    omega (arith, via_parts g s t v p h, near_of_via g s t v a p h d)
+
+-- a path through a vertex outside a ball of the bound is beyond it
+pub beyond_from : (g : Graph) (s t v bound : ℕ) (radius : Option ℕ) (p : List ℕ) → radius ≡ Some bound → IsOutside g radius s v → IsVia g s t v p → bound < walk_length g p
+beyond_from g s t v bound radius p is out h =
+    let far : bound < walk_length g h.front = subst (λ (r : Option ℕ). IsBeyond r (walk_length g h.front)) is (out h.front h.first.shortest.walk) in
+    omega (arith, via_parts g s t v p h)
+
+pub beyond_to : (g : Graph) (s t v bound : ℕ) (radius : Option ℕ) (p : List ℕ) → radius ≡ Some bound → IsOutside g radius v t → IsVia g s t v p → bound < walk_length g p
+beyond_to g s t v bound radius p is out h =
+    let far : bound < walk_length g h.back = subst (λ (r : Option ℕ). IsBeyond r (walk_length g h.back)) is (out h.back h.last.shortest.walk) in
+    omega (arith, via_parts g s t v p h)
+
+pub beyond_both : (ts : Trees) (v bound : ℕ) (o : Option (List ℕ)) (p : List ℕ) → ts.radius ≡ Some bound → IsViaPath ts v o → o ≡ None → IsVia ts.graph ts.source ts.target v p → bound < walk_length ts.graph p
+beyond_both ts v bound o p is h none via =
+    let out : IsOutside ts.graph ts.radius ts.source v ⊎ IsOutside ts.graph ts.radius v ts.target = subst (λ (x : Option (List ℕ)). IsViaPath ts v x) none h in
+    ⊎_elim
+    (λ (from : IsOutside ts.graph ts.radius ts.source v). beyond_from ts.graph ts.source ts.target v bound ts.radius p is from via)
+    (λ (to : IsOutside ts.graph ts.radius v ts.target). beyond_to ts.graph ts.source ts.target v bound ts.radius p is to via)
+    out
+
+pub via_found : (ts : Trees) (v : ℕ) (o : Option (List ℕ)) (p : List ℕ) → IsViaPath ts v o → o ≡ Some p → IsVia ts.graph ts.source ts.target v p
+via_found ts v o p h is =
+    let both : IsVia ts.graph ts.source ts.target v p × IsInside ts.graph ts.radius ts.source v × IsInside ts.graph ts.radius v ts.target = subst (λ (x : Option (List ℕ)). IsViaPath ts v x) is h in
+    both.0
+
+pub candidate_made : (g : Graph) (s t v a b : ℕ) (p : List ℕ) → IsVia g s t v p → IsDist g s v (Some a) → IsDist g v t (Some b) → a < 2 ^ 57 → b < 2 ^ 57 → IsCandidate g s t (record { via = v; near = a; length = a + b; arcs = p })
+candidate_made g s t v a b p h d e low high =
+    record {
+      through = h;
+      dist = d;
+      is_length = sym (via_length g s t v a b p h d e);
+      short = omega arith;
+    }
+
+-- a vertex of a near path is inside the ball
+pub inside_of_via : (g : Graph) (s t v bound : ℕ) (radius : Option ℕ) (p : List ℕ) → radius ≡ Some bound → IsVia g s t v p → walk_length g p ≤ bound → IsInside g radius s v
+inside_of_via g s t v bound radius p is h le =
+    let near : walk_length g h.front ≤ bound = omega (arith, via_parts g s t v p h) in
+    record {
+      distance = walk_length g h.front;
+      dist = dist_of_shortest g s v h.front h.first.shortest;
+      within = subst (λ (r : Option ℕ). IsWithin r (walk_length g h.front)) (sym is) near;
+    }
+
+-- the whole of a walk, as a pair of places
+whole_sum : (g : Graph) (u : ℕ) (p : List ℕ) → between (trail_of g u p) 0 (length p) ≡ walk_length g p
+whole_sum g u p =
+    let last = subst (λ (l : List ℕ). get_or (sums g 0 l) (length p) 0 ≡ 0 + walk_length g p) (append-nil p) (sum_after g p [] 0) in
+    let first = sum_after g [] p 0 in
+    omega arith
+
+whole_dist : (g : Graph) (u v d : ℕ) (p : List ℕ) → IsWalk g u p v → IsDist g u v (Some d) → IsDistAt g (trail_of g u p) 0 (length p) d
+whole_dist g u v d p walk h =
+    let last : vertex_at (trail_of g u p) (length p) ≡ v = subst (λ (l : List ℕ). get_or (places g u l) (length p) 0 ≡ v) (append-nil p) (place_after g p [] u v walk) in
+    let first : vertex_at (trail_of g u p) 0 ≡ u = place_after g [] p u u refl in
+    subst (λ (x : ℕ). IsDist g x (vertex_at (trail_of g u p) (length p)) (Some d)) (sym first)
+    (subst (λ (x : ℕ). IsDist g u x (Some d)) (sym last) h)
+
+-- so an admissible path is near: a walk that is too long fails the stretch as a whole
+pub near_of_admissible : (g : Graph) (q : Query) (o p : List ℕ) → IsFirst g q.from o q.to → IsWalk g q.from p q.to → IsAdmissible g q o p → IsNear g q (walk_length g o) p
+near_of_admissible g q o [] best walk h = omega arith
+near_of_admissible g q o (a ∷ p) best walk h =
+    let whole : between (trail_of g q.from (a ∷ p)) 0 (length (a ∷ p)) ≡ walk_length g (a ∷ p) = whole_sum g q.from (a ∷ p) in
+    ⊎_elim
+    (λ (long : (q.epsilon.den + q.epsilon.num) * walk_length g o < walk_length g (a ∷ p) * q.epsilon.den).
+    absurd (h.bounded 0 (length (a ∷ p)) (walk_length g o) (record {
+      rise = omega arith;
+      inside = omega (arith, length-places g q.from (a ∷ p));
+      dist = whole_dist g q.from q.to (walk_length g o) (a ∷ p) walk (dist_of_shortest g q.from q.to o best.shortest);
+      above = subst (λ (n : ℕ). (q.epsilon.den + q.epsilon.num) * walk_length g o < n * q.epsilon.den) (sym whole) long;
+    })))
+    (λ (short : walk_length g (a ∷ p) * q.epsilon.den ≤ (q.epsilon.den + q.epsilon.num) * walk_length g o). short)
+    (cases_lt ((q.epsilon.den + q.epsilon.num) * walk_length g o) (walk_length g (a ∷ p) * q.epsilon.den))

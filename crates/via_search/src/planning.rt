@@ -1,0 +1,42 @@
+//! The plan of a query.
+
+ghost use Rattle.std.specs.Prelude.{◌≡◌, IfOk};
+ghost use Rattle.road_model.specs.Graph.{IsVertex};
+ghost use Rattle.road_model.specs.Dist.{HaveSameDist};
+ghost use Rattle.road_model.specs.Answers.{IsAnswer};
+ghost use Rattle.via_search.specs.Judging.{StaysCounted};
+
+use crate::candidates::candidates;
+use crate::routes::alternatives;
+use canonical_trees::optimum;
+use forward_star::Star;
+use road_model::{NoMemory, Oracle, Plan, Query};
+use std::alloc::Global;
+
+/// The whole answer of a query: no path exactly where no walk leads there; else the optimum, and every other
+/// admissible single-via path once, in rank order.
+///
+/// It takes a search that stops at the target, and two searches up to the stretch bound of the optimum, 16 bytes a
+/// vertex, and for each vertex whose path is within that bound 4 bytes an arc of its path. Each path is tested
+/// once, and only those that share little are put to the oracle. An `Err` leaves the oracle as good as before.
+pub fn plan<O: Oracle>(
+    alloc: Global,
+    star: &Star,
+    oracle: &mut O,
+    query: &Query,
+) -> Result<Plan, NoMemory>
+    requires source { IsVertex star.now.vertices query.now.from }
+    requires target { IsVertex star.now.vertices query.now.to }
+    requires same { HaveSameDist star.now (O.graph oracle.old) }
+    ensures answer { IfOk result (IsAnswer star.now query.now) }
+    ensures same { O.graph oracle.new ≡ O.graph oracle.old }
+    ensures counted { StaysCounted (O.asked oracle.old) (O.asked oracle.new) }
+{
+    let _limits = star.graph();
+    let Some(optimum) = optimum(alloc, star, query.from, query.to)? else {
+        return Ok(Plan::NoPath);
+    };
+    let candidates = candidates(alloc, star, query, &optimum)?;
+    let others = alternatives(alloc, star, oracle, query, &optimum, candidates.as_slice())?;
+    Ok(Plan::Found { optimum, others })
+}
