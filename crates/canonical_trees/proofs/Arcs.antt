@@ -1,17 +1,16 @@
 -- The arcs that a scan finds are the last, or the first, of canonical paths.
-use Rattle.std.proofs.Common.{◌≡◌, ◌≢◌, ℕ, ◌+◌, ◌<◌, ◌≤◌, ◌⊎◌, List, [], ◌∷◌, ◌++◌, reverse, Option, Some, None, refl, sym, ap, ◌∙◌, subst, arith, inl, inr}
-use Rattle.std.specs.Option.{option_map}
+use Rattle.std.proofs.Common.{◌≡◌, ℕ, ◌+◌, List, ◌∷◌, reverse, Option, Some, None, sym, ap, ◌∙◌, subst, inl, inr}
 use Rattle.road_model.specs.declared.rows.ArcRow.{ArcRow}
 use Rattle.road_model.specs.declared.network.Step.{Step}
-use Rattle.road_model.specs.Graph.{Graph, arc_at, turned, reversed}
-use Rattle.road_model.specs.Canonical.{IsFirst, IsLast}
-use Rattle.tree_search.specs.Ball.{label_at, Reached}
-use Rattle.canonical_trees.specs.Tight.{IsRooted, IsLeastStep, IsStepDown, Adds}
+use Rattle.road_model.specs.Graph.{Graph, turned, reversed}
+use Rattle.road_model.specs.Canonical.{IsFirst}
+use Rattle.tree_search.specs.Ball.{Reached}
+use Rattle.canonical_trees.specs.Tight.{IsRooted, IsLeastStep, IsStepDown}
 use Rattle.canonical_trees.specs.Trees.{IsLastStep, IsFirstStep, IsFromStep, IsToStep, IsLastArc, IsFirstArc, IsTreeFrom, IsTreeTo}
 use Rattle.canonical_trees.proofs.Turned.{arc_unreversed, reverse-cons, IsFirst-unreversed}
 use Rattle.canonical_trees.proofs.StepsDown.{IsLast-step}
-use Rattle.canonical_trees.proofs.Existence.{HasLast, last_exists}
-use Rattle.canonical_trees.proofs.Balls.{rooted_from, rooted_to, label_of, inside_of, IsInside-unreversed, IsLabel-unreversed}
+use Rattle.canonical_trees.proofs.Existence.{last_exists}
+use Rattle.canonical_trees.proofs.Balls.{rooted_from, rooted_to, inside_of, IsInside-unreversed, IsLabel-unreversed}
 
 row_is : (r : ArcRow) (tail head length : ℕ) → r.tail ≡ tail → r.head ≡ head → r.length ≡ length → r ≡ record { tail = tail; head = head; length = length }
 row_is r tail head length a b c =

@@ -1,13 +1,11 @@
 -- What the labels and members of a ball say of distances within its radius, in both directions.
-use Rattle.std.proofs.Common.{◌≡◌, ◌≢◌, ℕ, ◌+◌, ◌<◌, ◌≤◌, ◌^◌, ◌⊎◌, ◌↔◌, List, [], ◌∷◌, length, Option, Some, None, IsSome, Contains, reverse, refl, sym, ap, ◌∙◌, subst, arith, inl, inr, ⊎_elim}
-use Rattle.std.specs.List.Sorted.{IsStrictlyIncreasing}
+use Rattle.std.proofs.Common.{◌≡◌, ℕ, ◌<◌, ◌≤◌, ◌^◌, List, length, Option, Some, None, IsSome, reverse, refl, sym, ap, ◌∙◌, subst, arith, ⊎_elim}
 use Rattle.std.proofs.lemmas.Bool.{cases_lt, false≢true}
 use Rattle.std.proofs.lemmas.List.{length-map}
-use Rattle.road_model.specs.declared.rows.ArcRow.{ArcRow}
 use Rattle.road_model.specs.Graph.{Graph, IsGraph, IsVertex, turned, reversed}
 use Rattle.road_model.specs.File.{IsWithinLimits}
-use Rattle.road_model.specs.Walk.{IsWalk, walk_length}
-use Rattle.road_model.specs.Dist.{IsDist, NoneShorter, DistsBelow}
+use Rattle.road_model.specs.Walk.{walk_length}
+use Rattle.road_model.specs.Dist.{IsDist, DistsBelow}
 use Rattle.road_model.proofs.Dists.{IsDist-same}
 use Rattle.road_model.proofs.Walks.{IsWalk-inside}
 use Rattle.tree_search.specs.Ball.{label_at, IsWithin, IsBeyond, IsLabelled, Reached, IsBall, IsLabelledTo}

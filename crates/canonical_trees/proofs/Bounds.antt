@@ -1,5 +1,5 @@
 -- What a search of a graph within the limits requires.
-use Rattle.std.proofs.Common.{◌≡◌, ℕ, ◌<◌, ◌≤◌, ◌^◌, List, Option, Some, None, sym, subst, arith}
+use Rattle.std.proofs.Common.{◌≡◌, ℕ, ◌^◌, Option, Some, None, sym, subst, arith}
 use Rattle.road_model.specs.Graph.{Graph, LengthsBelow, reversed}
 use Rattle.road_model.specs.File.{IsWithinLimits}
 use Rattle.road_model.specs.Dist.{DistsBelow}

@@ -1,10 +1,10 @@
 -- A walk along least tight arcs is canonical.
-use Rattle.std.proofs.Common.{◌≡◌, ℕ, ◌+◌, ◌<◌, ◌≤◌, ◌⊎◌, List, [], ◌∷◌, ◌++◌, reverse, Option, Some, None, refl, sym, ap, ◌∙◌, subst, arith, inl, inr, ⊎_elim}
-use Rattle.std.proofs.lemmas.Bool.{cases_lt, cases_eq}
+use Rattle.std.proofs.Common.{◌≡◌, ℕ, ◌+◌, ◌<◌, ◌≤◌, List, [], ◌∷◌, Some, refl, sym, ap, ◌∙◌, subst, arith, inl, inr, ⊎_elim}
+use Rattle.std.proofs.lemmas.Bool.{cases_lt}
 use Rattle.road_model.specs.declared.rows.ArcRow.{ArcRow}
-use Rattle.road_model.specs.Graph.{Graph, arc_at, length_at, row_length, IsArc, IsGraph}
-use Rattle.road_model.specs.Walk.{IsWalk, walk_length}
-use Rattle.road_model.specs.Dist.{IsDist, IsShortest, NoneShorter, HasWalk}
+use Rattle.road_model.specs.Graph.{Graph, arc_at, length_at, row_length, IsGraph}
+use Rattle.road_model.specs.Walk.{walk_length}
+use Rattle.road_model.specs.Dist.{IsDist, IsShortest}
 use Rattle.road_model.specs.Canonical.{LexLe, IsLast}
 use Rattle.canonical_trees.specs.Tight.{IsTight, IsLeastTight}
 use Rattle.road_model.proofs.Walks.{IsArc-at}

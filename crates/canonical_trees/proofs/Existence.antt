@@ -1,9 +1,9 @@
 -- Each vertex that has a label has a canonical walk to the root.
-use Rattle.std.proofs.Common.{◌≡◌, ◌≢◌, ℕ, ◌+◌, ◌<◌, ◌≤◌, ◌⊎◌, zero, suc, List, [], ◌∷◌, length, Option, Some, None, slice_get, refl, sym, ap, ◌∙◌, subst, arith, inl, inr, ⊎_elim}
+use Rattle.std.proofs.Common.{◌≡◌, ◌≢◌, ℕ, ◌+◌, ◌<◌, ◌⊎◌, zero, suc, List, [], ◌∷◌, length, Option, Some, None, slice_get, refl, sym, ap, ◌∙◌, subst, arith, inl, inr, ⊎_elim}
 use Rattle.std.proofs.lemmas.Bool.{cases_eq}
 use Rattle.std.proofs.lemmas.Option.{slice_get_past}
 use Rattle.road_model.specs.declared.network.Step.{Step}
-use Rattle.road_model.specs.Graph.{Graph, steps_from, step_at}
+use Rattle.road_model.specs.Graph.{Graph, steps_from}
 use Rattle.road_model.specs.Canonical.{IsLast}
 use Rattle.tree_search.specs.Ball.{label_at}
 use Rattle.canonical_trees.specs.Tight.{IsRooted, HasTightLabel, IsLeastStep}

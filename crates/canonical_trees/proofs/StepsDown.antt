@@ -4,16 +4,16 @@ use Rattle.std.proofs.lemmas.Bool.{cases_order, false≢true}
 use Rattle.std.proofs.lemmas.Option.{slice_get_within, slice_get_cases}
 use Rattle.road_model.specs.declared.rows.ArcRow.{ArcRow}
 use Rattle.road_model.specs.declared.network.Step.{Step}
-use Rattle.road_model.specs.Graph.{Graph, arc_at, step_at, steps_from, step_of, IsArc}
-use Rattle.road_model.specs.Walk.{IsWalk, walk_length}
+use Rattle.road_model.specs.Graph.{Graph, step_at, steps_from, step_of}
+use Rattle.road_model.specs.Walk.{walk_length}
 use Rattle.road_model.specs.Dist.{IsDist, IsShortest}
 use Rattle.road_model.specs.Canonical.{IsLast}
 use Rattle.road_model.proofs.Walks.{IsArc-at}
 use Rattle.road_model.proofs.Dists.{IsDist-same, shortest_of_dist}
 use Rattle.tree_search.specs.Ball.{label_at}
-use Rattle.canonical_trees.specs.Tight.{IsTight, IsLeastTight, IsRooted, HasTightLabel, IsLeastStep, Adds}
-use Rattle.canonical_trees.proofs.Steps.{IsStepOf, step_row, HasStep, step_of_arc, steps_rise}
-use Rattle.canonical_trees.proofs.Canonical.{Begins, begins, IsLast-cons, IsLast-nil}
+use Rattle.canonical_trees.specs.Tight.{IsTight, IsRooted, HasTightLabel, IsLeastStep, Adds}
+use Rattle.canonical_trees.proofs.Steps.{IsStepOf, step_row, step_of_arc, steps_rise}
+use Rattle.canonical_trees.proofs.Canonical.{begins, IsLast-cons, IsLast-nil}
 
 behind_cases : (g : Graph) (t v left b : ℕ) (labels : List (Option ℕ)) (x : ArcRow) (k : ℕ) (o : Option ℕ) → IsRooted g t labels → label_at labels v ≡ Some left → IsTight g t v b x k → label_at labels x.head ≡ o → label_at labels x.head ≡ Some k
 behind_cases g t v left b labels x k None rooted label tight is =

@@ -1,5 +1,5 @@
 -- What the walks that are found from the trees are.
-use Rattle.std.proofs.Common.{◌≡◌, ℕ, ◌<◌, ◌≤◌, ◌^◌, ◌+◌, List, [], ◌++◌, reverse, Option, Some, None, IsSome, IfSome, sym, ap, ◌∙◌, subst, arith, refl}
+use Rattle.std.proofs.Common.{◌≡◌, ℕ, ◌<◌, ◌^◌, List, [], ◌++◌, reverse, Option, Some, None, IsSome, IfSome, sym, ap, ◌∙◌, subst, refl}
 use Rattle.road_model.specs.Graph.{Graph, IsVertex, reversed}
 use Rattle.road_model.specs.File.{IsWithinLimits}
 use Rattle.road_model.specs.Walk.{walk_length}

@@ -6,6 +6,8 @@
 
 mod descent;
 mod path;
+#[cfg(test)]
+mod tests;
 mod tree_pair;
 
 pub use path::{optimum, via_path};

@@ -1,4 +1,4 @@
-use Rattle.std.proofs.Common.{◌≡◌, ℕ, ◌+◌, ◌++◌, ◌∷◌, [], List, Some, arith, rules, sym, ◌∙◌, ap, append_assoc}
+use Rattle.std.proofs.Common.{ℕ, ◌++◌, ◌∷◌, [], List, ◌∙◌, ap, append_assoc}
 use Rattle.canonical_trees.proofs.StepsDown.{some_at, walked_on, adds}
 use Rattle.canonical_trees.proofs.descent.follow.Goals as goal
 

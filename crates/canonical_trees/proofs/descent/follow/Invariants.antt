@@ -1,4 +1,4 @@
-use Rattle.std.proofs.Common.{◌≡◌, ℕ, ◌++◌, List, Some, IsSome}
+use Rattle.std.proofs.Common.{◌≡◌, ℕ, ◌++◌, List, IsSome}
 use Rattle.std.specs.Prelude.{unwrap_or}
 use Rattle.road_model.specs.Canonical.{IsLast}
 use Rattle.tree_search.specs.Ball.{label_at}

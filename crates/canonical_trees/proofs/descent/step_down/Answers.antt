@@ -1,7 +1,5 @@
-use Rattle.std.proofs.Common.{◌≡◌, ◌≢◌, ℕ, ◌+◌, ◌<◌, ◌≤◌, length, Some, None, arith, inl, inr, sym, ◌∙◌}
+use Rattle.std.proofs.Common.{◌≡◌, ◌≢◌, None, arith, sym, ◌∙◌}
 use Rattle.road_model.specs.Graph.{step_at}
-use Rattle.tree_search.specs.Ball.{label_at}
-use Rattle.canonical_trees.specs.Tight.{HasTightLabel}
 use Rattle.canonical_trees.proofs.Steps.{step_place}
 use Rattle.canonical_trees.proofs.StepsDown.{least_step, none_left}
 use Rattle.canonical_trees.proofs.descent.step_down.Goals as goal

@@ -2,7 +2,7 @@ use Rattle.std.proofs.Common.{◌≡◌, ℕ, List, Some, sym, ◌∙◌, subst}
 use Rattle.road_model.specs.Canonical.{IsFirst}
 use Rattle.tree_search.specs.Ball.{label_at}
 use Rattle.canonical_trees.proofs.Bounds.{near}
-use Rattle.canonical_trees.proofs.WholePaths.{rooted_found, IsLengthOf, length_found}
+use Rattle.canonical_trees.proofs.WholePaths.{rooted_found, length_found}
 use Rattle.canonical_trees.proofs.path.optimum.Goals as goal
 
 pub labels_to-requires-clause-near : goal.labels_to-requires-clause-near
