@@ -12,3 +12,6 @@ mod planning;
 mod routes;
 
 pub use planning::plan;
+
+#[cfg(test)]
+mod tests;

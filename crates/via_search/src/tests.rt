@@ -1,0 +1,217 @@
+ghost use Rattle.road_model.specs.Dist.{HaveSameDist};
+
+use super::*;
+use forward_star::Star;
+use road_model::{
+    ArcList, ArcRow, ArcRows, GraphFile, NoMemory, Oracle, Plan, Query, Ratio, Vertex,
+};
+use std::alloc::{AllocError, Global};
+use std::fmt::Write;
+use std::test::Fail;
+use tree_search::PlainOracle;
+
+type Arcs = &'static [(u32, u32, u64)];
+
+/// Gamma, alpha and epsilon.
+type Ratios = [(u64, u64); 3];
+
+const DEFAULT: Ratios = [(4, 5), (1, 4), (1, 4)];
+
+const A: Arcs = &[
+    (1, 2, 10),
+    (2, 6, 10),
+    (1, 3, 11),
+    (3, 4, 6),
+    (4, 6, 5),
+    (2, 3, 1),
+];
+
+const B: Arcs = &[(1, 2, 10), (2, 6, 10), (1, 3, 11), (3, 6, 11), (2, 3, 1)];
+
+const C: Arcs = &[
+    (1, 3, 5),
+    (3, 2, 5),
+    (2, 6, 10),
+    (3, 4, 6),
+    (4, 5, 5),
+    (5, 6, 5),
+];
+
+const D: Arcs = &[(1, 2, 5), (3, 4, 5), (1, 3, 5), (2, 4, 5)];
+
+const STUB: Arcs = &[(1, 2, 1), (2, 3, 1), (2, 4, 1), (4, 2, 1)];
+
+const PARALLEL: Arcs = &[(1, 2, 7), (1, 2, 7), (1, 1, 1)];
+
+// A star of these arcs (tail, head, length); a row outside the limits fails the test.
+fn star_of(alloc: Global, vertices: u32, arcs: &[(u32, u32, u64)]) -> Result<Star, Fail> {
+    let mut rows = ArcRows::new(alloc);
+    if vertices > 33554432 || arcs.len() > 67108864 {
+        return Err("too large a graph".into());
+    }
+    for arc in arcs {
+        let (tail, head, length) = *arc;
+        let ends = tail >= 1 && tail <= vertices && head >= 1 && head <= vertices;
+        if !ends || length < 1 || length > 4294967295 {
+            return Err("an arc outside the limits".into());
+        }
+        rows.push(ArcRow {
+            tail: Vertex(tail),
+            head: Vertex(head),
+            length,
+        })?;
+    }
+    Ok(Star::build(alloc, GraphFile::new(vertices, rows))?)
+}
+
+fn ratio_of(ratio: (u64, u64), cap: u64) -> Result<Ratio, Fail> {
+    if cap > 4 {
+        return Err("too large a cap".into());
+    }
+    Ok(Ratio::new(ratio.0, ratio.1, cap)?)
+}
+
+// The plan of a query; none where it found no memory.
+fn plan_over<O: Oracle>(
+    alloc: Global,
+    star: &Star,
+    oracle: &mut O,
+    ends: (u32, u32),
+    ratios: Ratios,
+) -> Result<Option<Plan>, Fail>
+    requires { HaveSameDist star.now (O.graph oracle.old) }
+{
+    let vertices = star.graph().vertices();
+    let (from, to) = ends;
+    if from == 0 || from > vertices || to == 0 || to > vertices {
+        return Err("no such vertex".into());
+    }
+    let query = Query {
+        from: Vertex(from),
+        to: Vertex(to),
+        gamma: ratio_of(ratios[0], 1)?,
+        alpha: ratio_of(ratios[1], 1)?,
+        epsilon: ratio_of(ratios[2], 4)?,
+    };
+    Ok(plan(alloc, star, oracle, &query).ok())
+}
+
+fn plan_of(alloc: Global, star: &Star, ends: (u32, u32), ratios: Ratios) -> Result<Plan, Fail> {
+    let _limits = star.graph();
+    let mut oracle = PlainOracle::new(alloc, star)?;
+    let made = plan_over(alloc, star, &mut oracle, ends, ratios)?;
+    Ok(made.ok_or("no memory")?)
+}
+
+fn write_arcs(text: &mut String, arcs: &ArcList) -> Result<(), Fail> {
+    text.push_str(" arcs")?;
+    for arc in arcs.as_slice() {
+        let number = arc.number();
+        write!(text, " {number}")?;
+    }
+    Ok(())
+}
+
+fn text_of(alloc: Global, plan: &Plan) -> Result<String, Fail> {
+    let mut text = String::new(alloc);
+    let Plan::Found { optimum, others } = plan else {
+        text.push_str("none")?;
+        return Ok(text);
+    };
+    let length = optimum.length;
+    write!(text, "optimum length {length}")?;
+    write_arcs(&mut text, &optimum.arcs)?;
+    for route in others.as_slice() {
+        let via = route.via.number();
+        let (length, shared) = (route.length, route.shared);
+        let (plateau, rank) = (route.plateau, route.rank);
+        write!(
+            text,
+            "; via {via} length {length} shared {shared} plateau {plateau} rank {rank}"
+        )?;
+        write_arcs(&mut text, &route.arcs)?;
+    }
+    Ok(text)
+}
+
+#[test]
+fn lists_the_optimum_and_each_alternative(rt: HostRuntime) -> Result<(), Fail> {
+    let long_way =
+        "optimum length 20 arcs 1 2; via 3 length 22 shared 0 plateau 6 rank 38 arcs 3 4 5";
+    let alone = "optimum length 20 arcs 1 2";
+    let cases: [(u32, Arcs, (u32, u32), Ratios, &str); 13] = [
+        (6, A, (1, 6), DEFAULT, long_way),
+        (6, B, (1, 6), DEFAULT, alone),
+        (6, A, (1, 6), [(4, 5), (3, 10), (1, 4)], long_way),
+        (6, A, (1, 6), [(4, 5), (13, 40), (1, 4)], alone),
+        (6, A, (1, 6), [(4, 5), (1, 4), (1, 10)], long_way),
+        (6, A, (1, 6), [(4, 5), (1, 4), (9, 100)], alone),
+        (
+            4,
+            D,
+            (1, 4),
+            DEFAULT,
+            "optimum length 10 arcs 3 2; via 1 length 10 shared 0 plateau 5 rank 15 arcs 1 4",
+        ),
+        (6, A, (1, 1), DEFAULT, "optimum length 0 arcs"),
+        (6, A, (6, 1), DEFAULT, "none"),
+        (
+            6,
+            C,
+            (1, 6),
+            DEFAULT,
+            "optimum length 20 arcs 1 2 3; via 4 length 21 shared 5 plateau 5 rank 42 arcs 1 4 5 6",
+        ),
+        (
+            6,
+            C,
+            (1, 6),
+            [(1, 10), (1, 4), (1, 4)],
+            "optimum length 20 arcs 1 2 3",
+        ),
+        (
+            4,
+            STUB,
+            (1, 3),
+            [(1, 1), (0, 1), (1, 1)],
+            "optimum length 2 arcs 1 2",
+        ),
+        (2, PARALLEL, (1, 2), DEFAULT, "optimum length 7 arcs 1"),
+    ];
+    for (vertices, arcs, ends, ratios, wanted) in cases {
+        let star = star_of(rt.alloc(), vertices, arcs)?;
+        let made = plan_of(rt.alloc(), &star, ends, ratios)?;
+        let text = text_of(rt.alloc(), &made)?;
+        assert_eq!(rt; text.as_str(), wanted);
+    }
+    Ok(())
+}
+
+/// An oracle that has no memory for an answer.
+#[derive(Drop)]
+struct Refuses<'a> {
+    star: &'a Star,
+}
+
+impl Oracle for Refuses<'_> {
+    ghost graph = { λ o. o.star.now };
+
+    ghost asked = { λ _. 0 };
+
+    fn distance(&mut self, _from: Vertex, _to: Vertex) -> Result<Option<u64>, NoMemory> {
+        Err(AllocError)
+    }
+
+    fn settled(&self) -> u64 {
+        0
+    }
+}
+
+#[test]
+fn asks_its_oracle(rt: HostRuntime) -> Result<(), Fail> {
+    let star = star_of(rt.alloc(), 6, C)?;
+    let mut oracle = Refuses { star: &star };
+    let made = plan_over(rt.alloc(), &star, &mut oracle, (1, 6), DEFAULT)?;
+    assert!(rt; made.is_none());
+    Ok(())
+}
