@@ -15,6 +15,12 @@ const SMALL: &[u8] =
 /// The same without its last arc.
 const SHORT: &[u8] = b"c road graph\nc\np sp 6 6\na 1 2 10\na 2 6 10\na 1 3 11\na 3 4 6\na 4 6 5\n";
 
+/// A detour of two long arcs, which no alternative may take.
+const DETOUR: &[u8] = b"p sp 6 5\na 1 2 10\na 2 6 10\na 1 3 11\na 3 6 11\na 2 3 1\n";
+
+/// Two ways of one length.
+const TIES: &[u8] = b"p sp 4 4\na 1 2 5\na 3 4 5\na 1 3 5\na 2 4 5\n";
+
 /// Two vertices, a parallel arc and a loop.
 const PARALLEL: &[u8] = b"p sp 2 3\na 1 2 7\na 1 2 7\na 1 1 1\n";
 
@@ -66,7 +72,23 @@ fn check<R: Abort + Threads + Sync>(
 #[test]
 fn lines_get_their_replies_however_the_bytes_come(rt: HostRuntime) -> Result<(), Fail> {
     let best: &[u8] = b"ok 1\noptimum length 20 arcs 1 2\nend\n";
-    let rows: [(&[u8], &[u8], &[u8]); 12] = [
+    let whole: &[u8] =
+        b"ok 1\noptimum length 20 arcs 1 2\nroute via 3 length 22 shared 0 plateau 6 rank 38 arcs 3 4 5\nend\n";
+    let rows: [(&[u8], &[u8], &[u8]); 18] = [
+        (SMALL, b"route 1 6\n", whole),
+        (SMALL, b"route 6 1\n", b"none 1\n"),
+        (SMALL, b"route 1 1\n", b"ok 1\noptimum length 0 arcs\nend\n"),
+        (
+            SMALL,
+            b"route 1 7\nroute 1\n",
+            b"error vertex\nerror syntax\n",
+        ),
+        (DETOUR, b"route 1 6\n", best),
+        (
+            TIES,
+            b"route 1 4\n",
+            b"ok 1\noptimum length 10 arcs 3 2\nroute via 1 length 10 shared 0 plateau 5 rank 15 arcs 1 4\nend\n",
+        ),
         (SMALL, b"optimum 1 6\n", best),
         (SMALL, b"optimum 1 6", best),
         (SMALL, b"optimum 1 6\r\n", best),
