@@ -5,3 +5,5 @@ pub mod Parts
 pub mod Potentials
 pub mod Walked
 pub mod Tried
+pub mod LeastArcs
+pub mod Answered

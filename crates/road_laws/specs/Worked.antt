@@ -3,9 +3,14 @@
 --   graph_b   a detour of two long arcs
 --   graph_s   a stub at vertex 4, which a path through it enters and leaves by the same vertex
 --   asked     a query with the usual ratios: 4/5, 1/4, 1/4
+--   plan_a    the optimum of graph A from 1 to 6, and its one alternative
 use Rattle.std.specs.Prelude.{ℕ, [], ◌∷◌}
 use Rattle.road_model.specs.declared.rows.ArcRow.{ArcRow}
 use Rattle.road_model.specs.declared.answer.Query.{Query}
+use Rattle.road_model.specs.declared.answer.Optimum.{Optimum}
+use Rattle.road_model.specs.declared.answer.Route.{Route}
+use Rattle.road_model.specs.declared.answer.Plan.{Plan}
+use Rattle.road_model.specs.declared.answer.Plan.TheVariants.{Found}
 use Rattle.road_model.specs.Graph.{Graph}
 use Rattle.road_model.specs.Fraction.{Fraction}
 
@@ -26,3 +31,12 @@ ratio num den = record { num = num; den = den }
 
 abbrev pub asked : ℕ → ℕ → Query
 asked from to = record { from = from; to = to; gamma = ratio 4 5; alpha = ratio 1 4; epsilon = ratio 1 4 }
+
+abbrev pub optimum_a : Optimum
+optimum_a = record { length = 20; arcs = 1 ∷ 2 ∷ [] }
+
+abbrev pub route_a : Route
+route_a = record { via = 3; length = 22; shared = 0; plateau = 6; rank = 38; arcs = 3 ∷ 4 ∷ 5 ∷ [] }
+
+abbrev pub plan_a : Plan
+plan_a = Found optimum_a (route_a ∷ [])

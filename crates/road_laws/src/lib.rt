@@ -18,5 +18,6 @@ pub use paths::{
 };
 pub use worked::{
     closed_subpaths_fail, distances_of_a, no_path_of_a, on_the_bound_is_tested_no_further,
-    the_long_way_of_a_is_admissible, ties_go_by_arc_number, two_arcs_fail_without_their_ends,
+    the_answer_of_a, the_long_way_of_a_is_admissible, ties_go_by_arc_number,
+    two_arcs_fail_without_their_ends,
 };

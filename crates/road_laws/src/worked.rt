@@ -1,15 +1,15 @@
 ghost use Rattle.std.specs.Prelude.{◌≡◌, ℕ, [], ◌∷◌, Some, None};
-ghost use Rattle.road_model.specs.declared.answer.Plan.TheVariants.{NoPath};
+ghost use Rattle.road_model.specs.declared.answer.Plan.TheVariants.{NoPath, Found};
 ghost use Rattle.road_model.specs.Walk.{IsWalk};
 ghost use Rattle.road_model.specs.Dist.{IsDist, IsShortest};
 ghost use Rattle.road_model.specs.Canonical.{IsFirst, IsLast, IsOptimum};
 ghost use Rattle.road_model.specs.Places.{trail_of};
 ghost use Rattle.road_model.specs.Tests.{shared, FailsLocal, FailsStretch, NoneFails, IsLeastFailure};
-ghost use Rattle.road_model.specs.Alternatives.{IsVia, HasNoVia, IsAdmissible};
+ghost use Rattle.road_model.specs.Alternatives.{IsVia, HasNoVia, IsAdmissible, IsName, IsPlateau};
 ghost use Rattle.road_model.specs.Answers.{IsAnswer};
 ghost use Rattle.road_model.specs.Verdicts.{IsVerdict};
 ghost use Rattle.road_model.specs.declared.answer.Verdict.TheVariants as verdict;
-ghost use Rattle.road_laws.specs.Worked.{graph_a, graph_b, graph_s, ratio, asked};
+ghost use Rattle.road_laws.specs.Worked.{graph_a, graph_b, graph_s, ratio, asked, optimum_a, route_a, plan_a};
 
 /// A walk, its distance, and a pair without one.
 pub fn distances_of_a()
@@ -61,4 +61,13 @@ pub fn no_path_of_a()
     ensures some { IsAnswer graph_a (asked 1 6) NoPath → ⊥ }
     ensures unreached { IsVerdict graph_a (asked 1 6) (1 ∷ 2 ∷ []) 5 verdict.Unreached }
     ensures reached { IsVerdict graph_a (asked 1 6) (1 ∷ 2 ∷ []) 3 verdict.Unreached → ⊥ }
+{}
+
+/// The answer of graph A from 1 to 6, by the definitions alone: neither less nor more is one.
+pub fn the_answer_of_a()
+    ensures answer { IsAnswer graph_a (asked 1 6) plan_a }
+    ensures name { IsName graph_a 1 6 (3 ∷ 4 ∷ 5 ∷ []) 3 }
+    ensures plateau { IsPlateau graph_a 1 6 (3 ∷ 4 ∷ 5 ∷ []) 6 }
+    ensures less { IsAnswer graph_a (asked 1 6) (Found optimum_a []) → ⊥ }
+    ensures more { IsAnswer graph_a (asked 1 6) (Found optimum_a (route_a ∷ route_a ∷ [])) → ⊥ }
 {}
