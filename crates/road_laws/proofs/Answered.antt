@@ -62,10 +62,10 @@ last_6 = last_by graph_a 6 6 [] (nothing 6) tt
 via_1 : IsVia graph_a 1 6 1 (1 ∷ 2 ∷ [])
 via_1 = record { vertex = inside 1 (omega arith) (omega arith); front = []; back = 1 ∷ 2 ∷ []; first = first_1; last = last_1; joined = refl }
 
-via_2 : IsVia graph_a 1 6 2 (1 ∷ 2 ∷ [])
+pub via_2 : IsVia graph_a 1 6 2 (1 ∷ 2 ∷ [])
 via_2 = record { vertex = inside 2 (omega arith) (omega arith); front = 1 ∷ []; back = 2 ∷ []; first = first_2; last = last_2; joined = refl }
 
-via_4 : IsVia graph_a 1 6 4 (3 ∷ 4 ∷ 5 ∷ [])
+pub via_4 : IsVia graph_a 1 6 4 (3 ∷ 4 ∷ 5 ∷ [])
 via_4 = record { vertex = inside 4 (omega arith) (omega arith); front = 3 ∷ 4 ∷ []; back = 5 ∷ []; first = first_4; last = last_4; joined = refl }
 
 via_6 : IsVia graph_a 1 6 6 (1 ∷ 2 ∷ [])
@@ -89,7 +89,7 @@ other_via (suc (suc (suc (suc (suc zero))))) p h other = no_via graph_a 1 6 5 p 
 other_via (suc (suc (suc (suc (suc (suc zero)))))) p h other = absurd (is_optimum 6 p via_6 h other)
 other_via (suc (suc (suc (suc (suc (suc (suc v))))))) p h other = absurd (omega (arith, h.vertex.last))
 
-differs : ◌≢◌ {A = List ℕ} (3 ∷ 4 ∷ 5 ∷ []) (1 ∷ 2 ∷ [])
+pub differs : ◌≢◌ {A = List ℕ} (3 ∷ 4 ∷ 5 ∷ []) (1 ∷ 2 ∷ [])
 differs e = let first : 3 ≡ 1 = ap (λ (l : List ℕ). get_or l 0 0) e in apart 1 3 (omega arith) (sym first)
 
 pub alternative_a : IsAlternative graph_a (asked 1 6) (1 ∷ 2 ∷ []) (3 ∷ 4 ∷ 5 ∷ [])

@@ -7,3 +7,4 @@ pub mod Walked
 pub mod Tried
 pub mod LeastArcs
 pub mod Answered
+pub mod Judged

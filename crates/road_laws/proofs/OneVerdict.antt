@@ -82,7 +82,7 @@ exceeds_of g q o v l h = subst (λ (n : ℕ). Exceeds q.epsilon n (walk_length g
 above_of : (g : Graph) (q : Query) (o : List ℕ) (v n : ℕ) (h : IsOverShared g q o v n) → IsAbove q.gamma (shared g o h.path) (walk_length g o)
 above_of g q o v n h = subst (λ (m : ℕ). IsAbove q.gamma m (walk_length g o)) h.is_sum h.over
 
-verdict_of_one : (g : Graph) (q : Query) (o : List ℕ) (v : ℕ) (a b : Verdict) → IsVerdict g q o v a → IsVerdict g q o v b → a ≡ b
+pub verdict_of_one : (g : Graph) (q : Query) (o : List ℕ) (v : ℕ) (a b : Verdict) → IsVerdict g q o v a → IsVerdict g q o v b → a ≡ b
 verdict_of_one g q o v the.Unreached the.Unreached h k =
     refl
 verdict_of_one g q o v the.Unreached the.Optimum h k =

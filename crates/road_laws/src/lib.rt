@@ -17,7 +17,8 @@ pub use paths::{
     parts_of_walk, triangle, via_of_target, via_parts_are_shortest,
 };
 pub use worked::{
-    closed_subpaths_fail, distances_of_a, no_path_of_a, on_the_bound_is_tested_no_further,
-    the_answer_of_a, the_long_way_of_a_is_admissible, ties_go_by_arc_number,
-    two_arcs_fail_without_their_ends,
+    changes_of_a, closed_subpaths_fail, distances_of_a, no_path_of_a,
+    on_the_bound_is_tested_no_further, pages_of_two, the_answer_of_a,
+    the_long_way_of_a_is_admissible, ties_go_by_arc_number, two_arcs_fail_without_their_ends,
+    verdicts_of_a,
 };

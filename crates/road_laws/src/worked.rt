@@ -1,4 +1,4 @@
-ghost use Rattle.std.specs.Prelude.{◌≡◌, ℕ, [], ◌∷◌, Some, None};
+ghost use Rattle.std.specs.Prelude.{◌≡◌, ℕ, [], ◌∷◌, Some, None, true, false};
 ghost use Rattle.road_model.specs.declared.answer.Plan.TheVariants.{NoPath, Found};
 ghost use Rattle.road_model.specs.Walk.{IsWalk};
 ghost use Rattle.road_model.specs.Dist.{IsDist, IsShortest};
@@ -6,10 +6,12 @@ ghost use Rattle.road_model.specs.Canonical.{IsFirst, IsLast, IsOptimum};
 ghost use Rattle.road_model.specs.Places.{trail_of};
 ghost use Rattle.road_model.specs.Tests.{shared, FailsLocal, FailsStretch, NoneFails, IsLeastFailure};
 ghost use Rattle.road_model.specs.Alternatives.{IsVia, HasNoVia, IsAdmissible, IsName, IsPlateau};
-ghost use Rattle.road_model.specs.Answers.{IsAnswer};
+ghost use Rattle.road_model.specs.Answers.{IsAnswer, IsPage};
+ghost use Rattle.road_model.specs.Changes.{after};
+ghost use Rattle.road_model.specs.Graph.{arc_at};
 ghost use Rattle.road_model.specs.Verdicts.{IsVerdict};
 ghost use Rattle.road_model.specs.declared.answer.Verdict.TheVariants as verdict;
-ghost use Rattle.road_laws.specs.Worked.{graph_a, graph_b, graph_s, ratio, asked, optimum_a, route_a, plan_a};
+ghost use Rattle.road_laws.specs.Worked.{graph_a, graph_b, graph_s, ratio, asked, optimum_a, route_a, plan_a, arc};
 
 /// A walk, its distance, and a pair without one.
 pub fn distances_of_a()
@@ -70,4 +72,27 @@ pub fn the_answer_of_a()
     ensures plateau { IsPlateau graph_a 1 6 (3 ∷ 4 ∷ 5 ∷ []) 6 }
     ensures less { IsAnswer graph_a (asked 1 6) (Found optimum_a []) → ⊥ }
     ensures more { IsAnswer graph_a (asked 1 6) (Found optimum_a (route_a ∷ route_a ∷ [])) → ⊥ }
+{}
+
+/// Vertex 4 of graph A lies on the alternative that vertex 3 names, and vertex 2 on the optimum.
+pub fn verdicts_of_a()
+    ensures listed { IsVerdict graph_a (asked 1 6) (1 ∷ 2 ∷ []) 4 (verdict.Listed 3) }
+    ensures not_by_itself { IsVerdict graph_a (asked 1 6) (1 ∷ 2 ∷ []) 4 (verdict.Listed 4) → ⊥ }
+    ensures not_long { IsVerdict graph_a (asked 1 6) (1 ∷ 2 ∷ []) 4 (verdict.Long 22) → ⊥ }
+    ensures optimum { IsVerdict graph_a (asked 1 6) (1 ∷ 2 ∷ []) 2 verdict.Optimum }
+{}
+
+/// A later change of an arc wins, and the other arcs stay.
+pub fn changes_of_a()
+    ensures last { arc_at (after graph_a (record { arc = 4; length = 9 } ∷ record { arc = 4; length = 7 } ∷ [])) 4
+        ≡ Some (arc 3 4 7) }
+    ensures others { arc_at (after graph_a (record { arc = 4; length = 9 } ∷ [])) 3 ≡ Some (arc 1 3 11) }
+{}
+
+/// Of two items a page of one has the first, and more stands behind it; behind both there is none.
+pub fn pages_of_two()
+    ensures first { IsPage 2 1 0 (record { first = 0; count = 1; more = true }) }
+    ensures last { IsPage 2 1 1 (record { first = 1; count = 1; more = false }) }
+    ensures behind { IsPage 2 1 9 (record { first = 2; count = 0; more = false }) }
+    ensures not_more { IsPage 2 1 1 (record { first = 1; count = 1; more = true }) → ⊥ }
 {}
