@@ -3,66 +3,88 @@
 
 python3 bench/compare_routes.py [CASES [SEED]]
 
-A case is a graph of up to ten vertices with ties, parallel arcs, loops and stubs, and every pair of its vertices as an
-`optimum` line and as a `route` line. It ends with 1 where a byte differs, and leaves that graph in bench/out.
+A case is a small graph and a script of requests of every kind over it, good ones and faulty ones (random_cases.py). It
+ends with 1 where a byte differs, and leaves that case in bench/out: case.gr, case.requests, and the replies by the
+definitions (case.expected) and by the program (case.replies).
 """
-import os
+import collections
 import random
-import subprocess
 import sys
 
 import plain
+import program
+import random_cases
 
-TOP = os.path.dirname(os.path.dirname(os.path.abspath(__file__)))
-
-
-def random_graph(chance):
-    vertices = chance.randint(1, 10)
-    longest = chance.choice([1, 2, 3, 9, 40, 1000])
-    arcs = []
-    for _ in range(chance.randint(0, 3 * vertices)):
-        tail, head = chance.randint(1, vertices), chance.randint(1, vertices)
-        length = chance.randint(1, longest)
-        arcs.append((tail, head, length))
-        if chance.random() < 0.4:
-            arcs.append((head, tail, length))
-        if chance.random() < 0.1:
-            arcs.append((tail, head, length))
-    chance.shuffle(arcs)
-    return plain.Graph(vertices, arcs)
+WORDS = ["optimum", "route", "next", "why", "version", "other"]
+VERDICTS = ["unreached", "optimum", "long", "shared", "local", "stretch", "listed"]
+ERRORS = ["long", "syntax", "cursor", "vertex", "ratio", "size", "behind", "gone"]
 
 
-def write(path, graph):
-    with open(path, "w") as file:
-        file.write("p sp %d %d\n" % (graph.vertices, len(graph.arcs)))
-        for arc in graph.arcs:
-            file.write("a %d %d %d\n" % arc)
+def asked(text):
+    """The lines of a text that are answered: those up to `quit`, without those that have no field."""
+    for line in plain.lines_of(text):
+        if plain.is_quit(line):
+            return
+        if plain.fields_of(line) or len(line) > plain.LONGEST_LINE:
+            yield line
+
+
+def tell_difference(graph, text, output):
+    """Prints the first request whose reply isn't where it should be."""
+    place = 0
+    for line in asked(text):
+        reply = plain.reply(graph, line)
+        if output[place : place + len(reply)] != reply:
+            print("request  %r\nexpected %r\nreplied  %r" % (line[:200], reply, output[place : place + len(reply) + 80]))
+            return
+        place += len(reply)
+    print("behind the last reply: %r" % output[place : place + 80])
+
+
+def count(counts, line, reply):
+    word = (plain.fields_of(line) or [b""])[0].decode("latin-1")
+    lines = [row.split() for row in reply.decode().splitlines()]
+    counts["asked", word if word in WORDS else "other"] += 1
+    counts["pages"] += word in ("route", "next") and lines[0][0] == "ok"
+    for row in lines:
+        counts[row[0]] += 1
+        if row[0] == "verdict":
+            counts["verdict", row[2]] += 1
+        elif row[0] == "error":
+            counts["error", row[1]] += 1
+
+
+def tell(counts, name, words):
+    return ", ".join("%s %d" % (word, counts[name, word]) for word in words)
 
 
 def main():
     cases = int(sys.argv[1]) if len(sys.argv) > 1 else 300
     seed = int(sys.argv[2]) if len(sys.argv) > 2 else 1
-    out = os.path.join(TOP, "bench", "out")
-    os.makedirs(out, exist_ok=True)
-    path = os.path.join(out, "case.gr")
     chance = random.Random(seed)
-    lines = others = 0
+    counts = collections.Counter()
     for case in range(cases):
-        graph = random_graph(chance)
-        write(path, graph)
-        requests, expected = [], []
-        for source in range(1, graph.vertices + 1):
-            for target in range(1, graph.vertices + 1):
-                requests.append("optimum %d %d\nroute %d %d\n" % (source, target, source, target))
-                reply = plain.route_reply(graph, source, target)
-                expected.append(plain.optimum_reply(graph, source, target) + reply)
-                lines += 2
-                others += reply.count("route via")
-        run = subprocess.run([os.path.join(TOP, "bin", "road"), "answer", path], input="".join(requests).encode(), stdout=subprocess.PIPE)
-        if run.returncode != 0 or run.stdout != "".join(expected).encode():
-            print("case %d of seed %d differs: status %d; the graph is in %s" % (case, seed, run.returncode, os.path.relpath(path, TOP)))
+        graph = random_cases.random_graph(chance)
+        text = random_cases.Script(chance, graph).text()
+        path = program.save("case.gr", plain.graph_text(graph))
+        program.save("case.requests", text)
+        status, output = program.road("answer", path, text=text)
+        replies = [(line, plain.reply(graph, line)) for line in asked(text)]
+        expected = b"".join(reply for _line, reply in replies)
+        if status != 0 or output != expected:
+            program.save("case.expected", expected)
+            program.save("case.replies", output)
+            print("case %d of seed %d differs, and is in bench/out; status %d" % (case, seed, status))
+            tell_difference(graph, text, output)
             sys.exit(1)
-    print("%d graphs, %d lines, %d alternatives: the same bytes" % (cases, lines, others))
+        for line, reply in replies:
+            count(counts, line, reply)
+    print("%d graphs, %d requests: the same bytes" % (cases, sum(counts["asked", word] for word in WORDS)))
+    print("requests: " + tell(counts, "asked", WORDS))
+    shown = counts["pages"], counts["more"], counts["route"], counts["none"]
+    print("pages: %d, with more behind: %d, alternatives: %d, no path: %d" % shown)
+    print("verdicts: " + tell(counts, "verdict", VERDICTS))
+    print("errors: " + tell(counts, "error", ERRORS))
 
 
 main()

@@ -1,87 +1,144 @@
 #!/usr/bin/env python3
-"""Measures `road answer` against the plain Rust yardstick on the same files and pairs, in one run.
+"""Measures the program against the plain Rust yardstick, with the same words on the same files, in turn.
 
-python3 bench/figures.py [ROUNDS]
+python3 bench/figures.py [files|optima] [ROUNDS]
 
-It makes grids of 60, 300 and 1000 a side and a road-like network of about a million vertices in bench/out, builds
-the yardstick with rustc, and runs both programs alternately, with no request and with 200 random pairs. Of the
-rounds it takes the least time of each, and says the spread. Memory is the peak of the resident set.
+files: `check` and `print` of a grid and of a road-like network, each of more than 100 MB, and `make` of a grid of a
+million vertices. optima: `answer` with no request and with 200 random pairs, on grids of 60, 300 and 1000 a side and on a
+road-like network of about a million vertices. Without a word it measures both. It builds the yardstick with rustc, makes
+the files in bench/out, and compares the bytes of both programs. Times are the medians of the rounds, 5 where no number is
+given; the spread is the greatest time of a run by its least. Memory is the peak of the resident set; less than some 14 MB
+isn't told apart.
 """
 import os
 import random
+import statistics
 import subprocess
 import sys
 import time
 
-HERE = os.path.dirname(os.path.abspath(__file__))
-TOP = os.path.dirname(HERE)
-OUT = os.path.join(HERE, "out")
+import program
+
 PAIRS = 200
+FILE_SIDE = 1200
+MADE_SIDE = 1000
+ANSWER_SIDES = (60, 300, 1000)
+PEAK = (
+    "import resource, subprocess, sys; subprocess.run(sys.argv[1:], stdin=sys.stdin, stdout=subprocess.DEVNULL); "
+    "print(resource.getrusage(resource.RUSAGE_CHILDREN).ru_maxrss)"
+)
 
 
-def make(name, command):
-    path = os.path.join(OUT, name)
-    if not os.path.exists(path):
-        with open(path, "wb") as file:
-            subprocess.run([sys.executable] + command, stdout=file, check=True)
+def build_yardstick():
+    path = program.out_file("yardstick")
+    source = os.path.join(program.BENCH, "yardstick", "main.rs")
+    subprocess.run(["rustc", "-O", "-C", "target-cpu=x86-64-v2", "-o", path, source], check=True)
     return path
 
 
-def measured(words, requests):
-    """Seconds, kilobytes at the peak, and the output."""
+def network_file(seed, side):
+    path = program.out_file("network-%d-%d.gr" % (seed, side))
+    with open(path, "wb") as file:
+        script = os.path.join(program.BENCH, "network.py")
+        subprocess.run([sys.executable, script, str(seed), str(side)], stdout=file, check=True)
+    return path
+
+
+def vertices_of(path):
+    with open(path, "rb") as file:
+        return next(int(line.split()[2]) for line in file if line.startswith(b"p"))
+
+
+def megabytes(path):
+    return os.path.getsize(path) / 1e6
+
+
+def seconds(words, text):
     begin = time.monotonic()
-    process = subprocess.Popen(words, stdin=subprocess.PIPE, stdout=subprocess.PIPE)
-    output, _ = process.communicate(requests)
-    seconds = time.monotonic() - begin
-    if process.returncode != 0:
-        sys.exit("%s ended with %d" % (words[0], process.returncode))
-    return seconds, output
+    subprocess.run(words, input=text, stdout=subprocess.DEVNULL, check=True)
+    return time.monotonic() - begin
 
 
-def peak(words, requests):
-    script = "import resource, subprocess, sys; subprocess.run(sys.argv[1:], stdin=sys.stdin, stdout=subprocess.DEVNULL); print(resource.getrusage(resource.RUSAGE_CHILDREN).ru_maxrss)"
-    done = subprocess.run([sys.executable, "-c", script] + words, input=requests, stdout=subprocess.PIPE, check=True)
-    return int(done.stdout)
+def in_turn(jobs, rounds):
+    """The times of each job, a pair of words and input; every round runs each job once."""
+    times = {name: [] for name in jobs}
+    for _ in range(rounds):
+        for name, job in jobs.items():
+            times[name].append(seconds(*job))
+    return times
+
+
+def spread(times):
+    return max(max(runs) / min(runs) for runs in times.values())
+
+
+def peak(words, text):
+    """In megabytes."""
+    done = subprocess.run([sys.executable, "-c", PEAK, *words], input=text, stdout=subprocess.PIPE, check=True)
+    return int(done.stdout) / 1024
+
+
+def same_output(programs, words, text=b""):
+    """The length of the output, which must be the same."""
+    runs = [subprocess.run([path, *words], input=text, stdout=subprocess.PIPE, check=True) for path in programs.values()]
+    road, other = (run.stdout for run in runs)
+    if road != other:
+        sys.exit("the outputs of %s differ" % " ".join(words))
+    return len(road)
+
+
+def tell_files(programs, rounds):
+    files = {
+        "grid %d" % FILE_SIDE: program.grid_file(7, FILE_SIDE, FILE_SIDE),
+        "road-like %d" % FILE_SIDE: network_file(7, FILE_SIDE),
+    }
+    made = ["make", "7", str(MADE_SIDE), str(MADE_SIDE)]
+    rows = [(command, name, [command, path]) for command in ("check", "print") for name, path in files.items()]
+    rows.append(("make", "grid %d" % MADE_SIDE, made))
+    print("| command | graph | MB | road, MB/s | plain, MB/s | ratio | spread |")
+    print("|---|---|---|---|---|---|---|")
+    for command, name, words in rows:
+        written = same_output(programs, words)
+        size = written / 1e6 if words == made else megabytes(words[1])
+        times = in_turn({p: ([path, *words], b"") for p, path in programs.items()}, rounds)
+        road, other = (statistics.median(times[p]) for p in ("road", "plain"))
+        figures = (size, size / road, size / other, road / other, spread(times))
+        print("| %s | %s | %.0f | %.0f | %.0f | %.2f | %.2f |" % (command, name, *figures), flush=True)
+
+
+def tell_optima(programs, rounds):
+    files = {"grid %d" % side: program.grid_file(7, side, side) for side in ANSWER_SIDES}
+    files["road-like"] = network_file(7, ANSWER_SIDES[-1])
+    print("| graph | MB | read: road, MB/s | plain, MB/s | ratio | optimum: road, ms | plain, ms | ratio | spread | "
+          "memory: road, MB | plain, MB | ratio |")
+    print("|---|---|---|---|---|---|---|---|---|---|---|---|")
+    for name, path in files.items():
+        size, vertices = megabytes(path), vertices_of(path)
+        chance = random.Random(7)
+        pairs = [(chance.randint(1, vertices), chance.randint(1, vertices)) for _ in range(PAIRS)]
+        requests = "".join("optimum %d %d\n" % pair for pair in pairs).encode()
+        same_output(programs, ["answer", path], requests)
+        loads = {"read": b"", "all": requests}
+        jobs = {(p, load): ([programs[p], "answer", path], text) for load, text in loads.items() for p in programs}
+        times = in_turn(jobs, rounds)
+        medians = {job: statistics.median(runs) for job, runs in times.items()}
+        read = [medians[p, "read"] for p in ("road", "plain")]
+        query = [(medians[p, "all"] - medians[p, "read"]) / PAIRS * 1000 for p in ("road", "plain")]
+        memory = [peak(*jobs[p, "all"]) for p in ("road", "plain")]
+        figures = (size, size / read[0], size / read[1], read[0] / read[1], *query, query[0] / query[1], spread(times))
+        row = "| %s | %.0f | %.0f | %.0f | %.2f | %.3f | %.3f | %.2f | %.2f | %.0f | %.0f | %.2f |"
+        print(row % (name, *figures, *memory, memory[0] / memory[1]), flush=True)
 
 
 def main():
-    rounds = int(sys.argv[1]) if len(sys.argv) > 1 else 5
-    os.makedirs(OUT, exist_ok=True)
-    yardstick = os.path.join(OUT, "yardstick")
-    source = os.path.join(HERE, "yardstick", "main.rs")
-    subprocess.run(["rustc", "-O", "-C", "target-cpu=x86-64-v2", "-o", yardstick, source], check=True)
-    road = os.path.join(TOP, "crates", "road", "out", "road")
-    graphs = [("grid %d" % side, make("grid%d.gr" % side, [os.path.join(HERE, "grid.py"), "7", str(side), str(side)])) for side in (60, 300, 1000)]
-    graphs.append(("road-like", make("road1000.gr", [os.path.join(HERE, "network.py"), "7", "1000"])))
-    print("| graph | MB | read: road, MB/s | plain, MB/s | ratio | optimum: road, ms | plain, ms | ratio | spread | memory: road, MB | plain, MB | ratio |")
-    print("|---|---|---|---|---|---|---|---|---|---|---|---|")
-    for name, path in graphs:
-        with open(path, "rb") as file:
-            for line in file:
-                if line.startswith(b"p"):
-                    vertices = int(line.split()[2])
-                    break
-        size = os.path.getsize(path) / 1e6
-        chance = random.Random(7)
-        requests = "".join("optimum %d %d\n" % (chance.randint(1, vertices), chance.randint(1, vertices)) for _ in range(PAIRS)).encode()
-        times = {(program, load): [] for program in ("road", "plain") for load in ("read", "all")}
-        words = {"road": [road, "answer", path], "plain": [yardstick, path]}
-        outputs = {}
-        for _ in range(rounds):
-            for program in ("road", "plain"):
-                times[program, "read"].append(measured(words[program], b"")[0])
-                seconds, outputs[program] = measured(words[program], requests)
-                times[program, "all"].append(seconds)
-        if outputs["road"] != outputs["plain"]:
-            sys.exit("the outputs differ on %s" % name)
-        read = {p: min(times[p, "read"]) for p in ("road", "plain")}
-        query = {p: (min(times[p, "all"]) - read[p]) / PAIRS * 1000 for p in ("road", "plain")}
-        spread = max(max(t) / min(t) for t in times.values())
-        memory = {p: peak(words[p], requests) / 1024 for p in ("road", "plain")}
-        print("| %s | %.0f | %.0f | %.0f | %.2f | %.3f | %.3f | %.2f | %.2f | %.0f | %.0f | %.2f |" % (
-            name, size, size / read["road"], size / read["plain"], read["road"] / read["plain"],
-            query["road"], query["plain"], query["road"] / query["plain"], spread,
-            memory["road"], memory["plain"], memory["road"] / memory["plain"]), flush=True)
+    tables = {"files": tell_files, "optima": tell_optima}
+    words = sys.argv[1:]
+    chosen = [words.pop(0)] if words and words[0] in tables else list(tables)
+    rounds = int(words[0]) if words else 5
+    programs = {"road": program.BUILT, "plain": build_yardstick()}
+    for name in chosen:
+        tables[name](programs, rounds)
 
 
-main()
+if __name__ == "__main__":
+    main()

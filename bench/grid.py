@@ -20,8 +20,8 @@ def words(seed):
         yield z ^ (z >> 31)
 
 
-def grid(seed, width, height):
-    source = words(seed)
+def arcs(source, width, height):
+    """The arcs (tail, head, length) by rising number, with lengths by the words of the source."""
     for v in range(1, width * height + 1):
         neighbours = []
         if v % width != 0:
@@ -29,15 +29,17 @@ def grid(seed, width, height):
         if v + width <= width * height:
             neighbours.append(v + width)
         for w in neighbours:
-            yield "a %d %d %d\n" % (v, w, 1 + next(source) % 1000)
-            yield "a %d %d %d\n" % (w, v, 1 + next(source) % 1000)
+            yield v, w, 1 + next(source) % 1000
+            yield w, v, 1 + next(source) % 1000
 
 
-def main():
-    seed, width, height = (int(word) for word in sys.argv[1:4])
-    arcs = 2 * ((width - 1) * height + width * (height - 1))
-    sys.stdout.write("p sp %d %d\n" % (width * height, arcs))
-    sys.stdout.writelines(grid(seed, width, height))
+def text(seed, width, height):
+    """The lines of the file."""
+    count = 2 * ((width - 1) * height + width * (height - 1))
+    yield "p sp %d %d\n" % (width * height, count)
+    for arc in arcs(words(seed), width, height):
+        yield "a %d %d %d\n" % arc
 
 
-main()
+if __name__ == "__main__":
+    sys.stdout.writelines(text(*(int(word) for word in sys.argv[1:4])))

@@ -4,8 +4,10 @@
 SIDE by SIDE junctions stand on a jittered grid. Streets join neighbours, one in eight only one way, and
 one in twelve is left out. Every eighth row and column is an arterial road, every twenty-fourth a motorway
 with ramps; faster roads have shorter times. Some streets have a parallel service lane, some junctions a
-dead-end stub, and a few a loop. Lengths are travel times in tenths of a second. The same seed and side
-give the same bytes.
+dead-end stub, and a few a loop. Lengths are travel times in tenths of a second.
+
+The file is as such files are: comment lines and blank lines stand among the arcs, and some of its lines end with CR LF.
+The same seed and side give the same bytes.
 """
 import sys
 
@@ -79,17 +81,30 @@ def network(seed, side):
     return vertices, arcs
 
 
+def text(vertices, arcs, title):
+    """The lines of the file."""
+    yield "c %s\n" % title
+    yield "c\r\n"
+    yield "c%s\n" % ("-" * 300)
+    yield "\n"
+    yield "p sp %d %d\n" % (vertices, len(arcs))
+    for number, (u, v, length) in enumerate(arcs, 1):
+        if number % 250 == 1:
+            yield "c arcs from %d on%s" % (number, "\r\n" if number % 500 == 1 else "\n")
+        if number % 400 == 0:
+            yield ["\n", "\r\n", "  \n", "\t\r\n"][number // 400 % 4]
+        if number % 1000 == 0:
+            yield " c a %d %d %d is left out\n" % (v + 1, u + 1, length)
+        has_return = number % 97 == 0 or number // 300 % 5 == 3
+        yield "a %d %d %d%s" % (u + 1, v + 1, length, "\r\n" if has_return else "\n")
+    yield "c end\n"
+
+
 def main():
     seed, side = int(sys.argv[1]), int(sys.argv[2])
     vertices, arcs = network(seed, side)
-    out = ["c a road-like network made by bench/network.py %d %d\n" % (seed, side), "c\r\n"]
-    out.append("p sp %d %d\n" % (vertices, len(arcs)))
-    for number, (u, v, length) in enumerate(arcs, 1):
-        if number % 1000 == 0:
-            out.append("c arc %d follows\r\n" % number)
-        end = "\r\n" if number % 97 == 0 else "\n"
-        out.append("a %d %d %d%s" % (u + 1, v + 1, length, end))
-    sys.stdout.write("".join(out))
+    sys.stdout.writelines(text(vertices, arcs, "a road-like network made by bench/network.py %d %d" % (seed, side)))
 
 
-main()
+if __name__ == "__main__":
+    main()

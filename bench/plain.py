@@ -1,19 +1,42 @@
-"""A plain reading of the definitions, with no kit: graphs, canonical optima, and the texts of replies."""
+#!/usr/bin/env python3
+"""The definitions of docs/definitions.md, computed plainly and with no kit: canonical paths, the alternatives and the
+verdicts of a query, over all vertices and all pairs of places, and the replies to request lines.
+
+python3 bench/plain.py GRAPH < REQUESTS > REPLIES
+"""
 import heapq
+import itertools
+import re
+import sys
+
+LONGEST_LINE = 1024
+RATIOS = {b"gamma": (4, 5), b"alpha": (1, 4), b"epsilon": (1, 4)}
+USUAL = {**RATIOS, b"size": 5, b"since": 0}
+
+
+# ---- graphs and canonical paths
 
 
 class Graph:
     def __init__(self, vertices, arcs):
         self.vertices = vertices
         self.arcs = arcs  # (tail, head, length); arc k is arcs[k - 1]
-        self.out = [[] for _ in range(vertices + 1)]
+        self.out = [[] for _ in range(vertices + 1)]  # of each vertex: (arc number, other end, length)
         self.into = [[] for _ in range(vertices + 1)]
-        for number, (tail, head, _length) in enumerate(arcs, 1):
-            self.out[tail].append(number)
-            self.into[head].append(number)
+        for number, (tail, head, length) in enumerate(arcs, 1):
+            self.out[tail].append((number, head, length))
+            self.into[head].append((number, tail, length))
+        self.distances = {}
+
+    def distance(self, u, v):
+        """The least length of a walk from u to v; None where there is none."""
+        if u not in self.distances:
+            self.distances[u] = {w: length for w, (length, _arcs) in canonical_paths(self.out, u).items()}
+        return self.distances[u].get(v)
 
 
 def read_graph(path):
+    """The graph of a file that has no fault."""
     with open(path, "rb") as file:
         text = file.read()
     vertices, arcs = 0, []
@@ -26,163 +49,288 @@ def read_graph(path):
     return Graph(vertices, arcs)
 
 
-def distances(graph, source, backwards=False):
-    """The distance from the source to each vertex it reaches (to it, where backwards)."""
-    labels = {source: 0}
-    settled = set()
-    queue = [(0, source)]
-    lists = graph.into if backwards else graph.out
-    end = 0 if backwards else 1
+def graph_text(graph):
+    """The file of a graph, with no needless byte."""
+    lines = ["p sp %d %d\n" % (graph.vertices, len(graph.arcs))] + ["a %d %d %d\n" % arc for arc in graph.arcs]
+    return "".join(lines).encode()
+
+
+def canonical_paths(beside, root):
+    """For each vertex joined to the root by arcs out of it (`graph.out`) or into it (`graph.into`): the least length of a
+    walk between the two, and of the walks of that length the arc numbers that are least in dictionary order. They are
+    read, and given, from the vertex to the root."""
+    found, queue = {}, [(0, (), root)]
     while queue:
-        label, v = heapq.heappop(queue)
-        if v in settled:
+        length, arcs, v = heapq.heappop(queue)
+        if v in found:
             continue
-        settled.add(v)
-        for number in lists[v]:
-            arc = graph.arcs[number - 1]
-            other = arc[end]
-            there = label + arc[2]
-            if other not in labels or there < labels[other]:
-                labels[other] = there
-                heapq.heappush(queue, (there, other))
-    return labels
+        found[v] = length, arcs
+        for number, other, step in beside[v]:
+            if other not in found:
+                heapq.heappush(queue, (length + step, (number,) + arcs, other))
+    return found
 
 
-def first_path(graph, labels, source, v):
-    """The shortest path whose arc numbers, read from its end backwards, are least."""
-    arcs = []
-    while v != source:
-        number = min(
-            k
-            for k in graph.into[v]
-            if graph.arcs[k - 1][0] in labels and labels[graph.arcs[k - 1][0]] + graph.arcs[k - 1][2] == labels[v]
-        )
-        arcs.append(number)
-        v = graph.arcs[number - 1][0]
-    arcs.reverse()
-    return arcs
+# ---- alternatives and verdicts
 
 
-def last_path(graph, labels, v, target):
-    """The shortest path whose arc numbers, read forwards, are least; labels are distances to the target."""
-    arcs = []
-    while v != target:
-        number = min(
-            k
-            for k in graph.out[v]
-            if graph.arcs[k - 1][1] in labels and labels[graph.arcs[k - 1][1]] + graph.arcs[k - 1][2] == labels[v]
-        )
-        arcs.append(number)
-        v = graph.arcs[number - 1][1]
-    return arcs
+class Query:
+    """The single-via paths of a query, as tuples of arc numbers, and what the definitions say of them."""
 
+    def __init__(self, graph, source, target, gamma, alpha, epsilon):
+        self.graph, self.source = graph, source
+        self.gamma, self.alpha, self.epsilon = gamma, alpha, epsilon
+        self.fronts = canonical_paths(graph.out, source)
+        backs = canonical_paths(graph.into, target)
+        self.path_of = {v: self.fronts[v][1][::-1] + backs[v][1] for v in self.fronts if v in backs}
+        self.optimum = self.path_of.get(target)
+        if self.optimum is not None:
+            self.shortest = self.length(self.optimum)
 
-def optimum(graph, source, target):
-    labels = distances(graph, source)
-    if target not in labels:
+    def length(self, path):
+        return sum(self.graph.arcs[number - 1][2] for number in path)
+
+    def shared(self, path):
+        return self.length(set(self.optimum) & set(path))
+
+    def vias(self, path):
+        return [v for v, other in self.path_of.items() if other == path]
+
+    def plateau(self, path):
+        labels = [self.fronts[v][0] for v in self.vias(path)]
+        return max(labels) - min(labels)
+
+    def is_long(self, path):
+        num, den = self.epsilon
+        return self.length(path) * den > (den + num) * self.shortest
+
+    def shares_much(self, path):
+        num, den = self.gamma
+        return self.shared(path) * den > num * self.shortest
+
+    def places(self, path):
+        """The vertices at the places of a path, and its length up to each."""
+        vertices, sums = [self.source], [0]
+        for number in path:
+            _tail, head, length = self.graph.arcs[number - 1]
+            vertices.append(head)
+            sums.append(sums[-1] + length)
+        return vertices, sums
+
+    def local_failure(self, path):
+        """The least two places with a tested subpath that is no shortest walk, and their distance."""
+        num, den = self.alpha
+        bound = num * self.shortest
+        vertices, sums = self.places(path)
+        for i, j in itertools.combinations(range(len(vertices)), 2):
+            whole, distance = sums[j] - sums[i], self.graph.distance(vertices[i], vertices[j])
+            is_tested = whole * den <= bound or (j >= i + 2 and (sums[j - 1] - sums[i + 1]) * den < bound)
+            if is_tested and whole != distance:
+                return i, j, distance
         return None
-    return labels[target], first_path(graph, labels, source, target)
+
+    def stretch_failure(self, path):
+        """The least two places with a subpath that stretches too far, and their distance."""
+        num, den = self.epsilon
+        vertices, sums = self.places(path)
+        for i, j in itertools.combinations(range(len(vertices)), 2):
+            distance = self.graph.distance(vertices[i], vertices[j])
+            if (sums[j] - sums[i]) * den > (den + num) * distance:
+                return i, j, distance
+        return None
+
+    def is_admissible(self, path):
+        if self.is_long(path):  # it stretches too far between its first and its last place
+            return False
+        return not (self.shares_much(path) or self.local_failure(path) or self.stretch_failure(path))
+
+    def alternatives(self):
+        """(rank, name, length, shared, plateau, path) of each, in order."""
+        found = []
+        for path in set(self.path_of.values()) - {self.optimum}:
+            if self.is_admissible(path):
+                length, shared, plateau = self.length(path), self.shared(path), self.plateau(path)
+                found.append((2 * length + shared - plateau, min(self.vias(path)), length, shared, plateau, path))
+        return sorted(found)
+
+    def verdict(self, via):
+        """The words of the verdict behind its via vertex."""
+        path = self.path_of.get(via)
+        if path is None:
+            return "unreached"
+        if path == self.optimum:
+            return "optimum"
+        if self.is_long(path):
+            return "long %d" % self.length(path)
+        if self.shares_much(path):
+            return "shared %d" % self.shared(path)
+        if self.local_failure(path):
+            return "local %d %d %d" % self.local_failure(path)
+        if self.stretch_failure(path):
+            return "stretch %d %d %d" % self.stretch_failure(path)
+        return "listed %d" % min(self.vias(path))
+
+
+# ---- lines, fields and numbers
+
+
+class Refusal(Exception):
+    """What stands behind the word `error`."""
+
+
+def lines_of(text):
+    """A line ends at a line feed; a carriage return before it belongs to the end. What is behind the last is a line too."""
+    lines = text.split(b"\n")
+    if lines[-1] == b"":
+        lines.pop()
+    return [line[:-1] if line.endswith(b"\r") else line for line in lines]
+
+
+def fields_of(line):
+    return re.findall(rb"[^ \t]+", line)
+
+
+def number_of(field):
+    if not re.fullmatch(rb"[0-9]{1,19}", field):
+        raise Refusal("syntax")
+    return int(field)
+
+
+def numbers_of(fields, count):
+    if len(fields) != count:
+        raise Refusal("syntax")
+    return [number_of(field) for field in fields]
+
+
+def options_of(fields, names):
+    """The options that pairs of fields give, each at most once, and the usual ones."""
+    given = {}
+    for name, value in itertools.zip_longest(fields[::2], fields[1::2]):
+        if name not in names or name in given or value is None:
+            raise Refusal("syntax")
+        is_count = name in (b"size", b"since")
+        given[name] = number_of(value) if is_count else tuple(numbers_of(value.split(b"/"), 2))
+    return {**USUAL, **given}
+
+
+def cursor_of(field):
+    """The eleven numbers of a cursor: version, source, target, gamma, alpha, epsilon, size, offset."""
+    parts = field.split(b".")
+    if len(parts) != 11 or not all(re.fullmatch(rb"0|[1-9][0-9]{0,18}", part) for part in parts):
+        raise Refusal("cursor")
+    return [int(part) for part in parts]
+
+
+# ---- replies
+
+
+def test(graph, ends, ratios=(), size=1, since=0, version=1):
+    """Raises the first refusal that holds."""
+    if not all(1 <= v <= graph.vertices for v in ends):
+        raise Refusal("vertex")
+    for (num, den), cap in zip(ratios, (1, 1, 4)):
+        if not 1 <= den <= 1000000 or num > cap * den:
+            raise Refusal("ratio")
+    if not 1 <= size <= 64:
+        raise Refusal("size")
+    if since > 1:
+        raise Refusal("behind 1")
+    if version != 1:
+        raise Refusal("gone 1")
 
 
 def arcs_text(arcs):
     return "".join(" %d" % number for number in arcs)
 
 
-def optimum_reply(graph, source, target):
-    if not (1 <= source <= graph.vertices and 1 <= target <= graph.vertices):
-        return "error vertex\n"
-    found = optimum(graph, source, target)
+def optimum(graph, fields):
+    source, target = numbers_of(fields, 2)
+    test(graph, [source, target])
+    found = canonical_paths(graph.out, source).get(target)
     if found is None:
-        return "none 1\n"
-    return "ok 1\noptimum length %d arcs%s\nend\n" % (found[0], arcs_text(found[1]))
+        return ["none 1"]
+    return ["ok 1", "optimum length %d arcs%s" % (found[0], arcs_text(found[1][::-1])), "end"]
 
 
-def path_length(graph, arcs):
-    return sum(graph.arcs[number - 1][2] for number in arcs)
+def page(graph, cursor, since=0):
+    version, source, target, *numbers, size, offset = cursor
+    ratios = numbers[0:2], numbers[2:4], numbers[4:6]
+    test(graph, [source, target], ratios, size, since, version)
+    query = Query(graph, source, target, *ratios)
+    if query.optimum is None:
+        return ["none 1"]
+    items = ["optimum length %d arcs%s" % (query.shortest, arcs_text(query.optimum))]
+    for rank, name, length, shared, plateau, path in query.alternatives():
+        numbers = name, length, shared, plateau, rank, arcs_text(path)
+        items.append("route via %d length %d shared %d plateau %d rank %d arcs%s" % numbers)
+    first = min(offset, len(items))
+    behind = first + min(size, len(items) - first)
+    more = ["more " + ".".join(str(number) for number in cursor[:-1] + [behind])]
+    return ["ok 1"] + items[first:behind] + (more if behind < len(items) else []) + ["end"]
 
 
-def places(graph, source, arcs):
-    """The vertices at the places of a walk, and the lengths up to them."""
-    vertices, sums = [source], [0]
-    for number in arcs:
-        _tail, head, length = graph.arcs[number - 1]
-        vertices.append(head)
-        sums.append(sums[-1] + length)
-    return vertices, sums
+def route(graph, fields):
+    source, target = numbers_of(fields[:2], 2)
+    options = options_of(fields[2:], (b"gamma", b"alpha", b"epsilon", b"size", b"since"))
+    ratios = [*options[b"gamma"], *options[b"alpha"], *options[b"epsilon"]]
+    return page(graph, [1, source, target, *ratios, options[b"size"], 0], options[b"since"])
 
 
-class Query:
-    """All single-via paths of a query, tested by the definitions alone: every pair of places of every path."""
-
-    def __init__(self, graph, source, target, gamma=(4, 5), alpha=(1, 4), epsilon=(1, 4)):
-        self.graph, self.source, self.target = graph, source, target
-        self.gamma, self.alpha, self.epsilon = gamma, alpha, epsilon
-        self.all = {v: distances(graph, v) for v in range(1, graph.vertices + 1)}
-        self.from_source = self.all[source]
-        self.to_target = distances(graph, target, backwards=True)
-        self.vias = {}
-        for v in range(1, graph.vertices + 1):
-            if v in self.from_source and v in self.to_target:
-                front = first_path(graph, self.from_source, source, v)
-                back = last_path(graph, self.to_target, v, target)
-                self.vias[v] = tuple(front + back)
-        if target in self.from_source:
-            self.optimum = tuple(first_path(graph, self.from_source, source, target))
-            self.length = path_length(graph, self.optimum)
-
-    def shared(self, path):
-        return sum(self.graph.arcs[number - 1][2] for number in set(self.optimum) if number in path)
-
-    def local_failure(self, path):
-        num, den = self.alpha
-        vertices, sums = places(self.graph, self.source, path)
-        for i in range(len(vertices)):
-            for j in range(i + 1, len(vertices)):
-                whole = sums[j] - sums[i]
-                tested = whole * den <= num * self.length
-                if j >= i + 2:
-                    tested = tested or (sums[j - 1] - sums[i + 1]) * den < num * self.length
-                if tested and whole != self.all[vertices[i]][vertices[j]]:
-                    return i, j, self.all[vertices[i]][vertices[j]]
-        return None
-
-    def stretch_failure(self, path):
-        num, den = self.epsilon
-        vertices, sums = places(self.graph, self.source, path)
-        for i in range(len(vertices)):
-            for j in range(i + 1, len(vertices)):
-                distance = self.all[vertices[i]][vertices[j]]
-                if (sums[j] - sums[i]) * den > (den + num) * distance:
-                    return i, j, distance
-        return None
-
-    def is_admissible(self, path):
-        num, den = self.gamma
-        limited = self.shared(path) * den <= num * self.length
-        return limited and self.local_failure(path) is None and self.stretch_failure(path) is None
-
-    def routes(self):
-        """(rank, via, length, shared, plateau, arcs) of every alternative, in order."""
-        found = []
-        for path in set(self.vias.values()):
-            if path == self.optimum or not self.is_admissible(path):
-                continue
-            vias = [v for v, other in self.vias.items() if other == path]
-            labels = [self.from_source[v] for v in vias]
-            plateau = max(labels) - min(labels)
-            length, shared = path_length(self.graph, path), self.shared(path)
-            found.append((2 * length + shared - plateau, min(vias), length, shared, plateau, path))
-        return sorted(found)
+def next_page(graph, fields):
+    if len(fields) != 1:
+        raise Refusal("syntax")
+    return page(graph, cursor_of(fields[0]))
 
 
-def route_reply(graph, source, target):
-    if not (1 <= source <= graph.vertices and 1 <= target <= graph.vertices):
-        return "error vertex\n"
-    query = Query(graph, source, target)
-    if target not in query.from_source:
-        return "none 1\n"
-    lines = ["ok 1", "optimum length %d arcs%s" % (query.length, arcs_text(query.optimum))]
-    for rank, via, length, shared, plateau, path in query.routes():
-        lines.append("route via %d length %d shared %d plateau %d rank %d arcs%s" % (via, length, shared, plateau, rank, arcs_text(path)))
-    lines.append("end")
-    return "\n".join(lines) + "\n"
+def why(graph, fields):
+    source, target, via = numbers_of(fields[:3], 3)
+    options = options_of(fields[3:], (b"gamma", b"alpha", b"epsilon", b"since"))
+    ratios = options[b"gamma"], options[b"alpha"], options[b"epsilon"]
+    test(graph, [source, target, via], ratios, since=options[b"since"])
+    query = Query(graph, source, target, *ratios)
+    if query.optimum is None:
+        return ["none 1"]
+    return ["ok 1", "verdict %d %s" % (via, query.verdict(via)), "end"]
+
+
+def version(graph, fields):
+    numbers_of(fields, 0)
+    return ["version 1"]
+
+
+REQUESTS = {b"optimum": optimum, b"route": route, b"next": next_page, b"why": why, b"version": version}
+
+
+def reply(graph, line):
+    """The bytes of the reply to a line; none to a line without a field."""
+    fields = fields_of(line)
+    try:
+        if len(line) > LONGEST_LINE:
+            raise Refusal("long")
+        if not fields:
+            return b""
+        if fields[0] not in REQUESTS:
+            raise Refusal("syntax")
+        lines = REQUESTS[fields[0]](graph, fields[1:])
+    except Refusal as refusal:
+        lines = ["error %s" % refusal]
+    return "".join(line + "\n" for line in lines).encode()
+
+
+def is_quit(line):
+    return len(line) <= LONGEST_LINE and fields_of(line) == [b"quit"]
+
+
+def replies(graph, text):
+    """The replies to the lines of a text, up to a line `quit`."""
+    asked = itertools.takewhile(lambda line: not is_quit(line), lines_of(text))
+    return b"".join(reply(graph, line) for line in asked)
+
+
+def main():
+    graph = read_graph(sys.argv[1])
+    sys.stdout.buffer.write(replies(graph, sys.stdin.buffer.read()))
+
+
+if __name__ == "__main__":
+    main()

@@ -4,6 +4,7 @@ pub mod Dist
 pub mod File
 pub mod Canonical
 pub mod Fraction
+pub mod Queries
 pub mod Changes
 pub mod Places
 pub mod Tests

@@ -13,6 +13,27 @@ pub struct Query {
     pub epsilon: Ratio,
 }
 
+impl Query {
+    ghost use Rattle.std.specs.Prelude.{◌≡◌};
+    ghost use Rattle.road_model.specs.Queries.{usual};
+
+    /// Two vertices with the usual ratios: 4/5 for `gamma`, and 1/4 for `alpha` and `epsilon`.
+    pub fn usual(from: Vertex, to: Vertex) -> Query
+        ensures { result ≡ usual from to }
+    {
+        let (Ok(gamma), Ok(quarter)) = (Ratio::new(4, 5, 1), Ratio::new(1, 4, 1)) else {
+            unreachable!()
+        };
+        Query {
+            from,
+            to,
+            gamma,
+            alpha: quarter,
+            epsilon: quarter,
+        }
+    }
+}
+
 /// The canonical shortest path of a query.
 #[derive(Debug, Drop)]
 pub struct Optimum {

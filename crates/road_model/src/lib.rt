@@ -12,6 +12,7 @@ mod network;
 mod number;
 mod oracle;
 mod ratio;
+mod request;
 mod rows;
 mod trail;
 
@@ -23,6 +24,7 @@ pub use network::{Network, Step};
 pub use number::{ArcNo, Vertex};
 pub use oracle::Oracle;
 pub use ratio::{Ratio, RatioFault};
+pub use request::{Cursor, CursorQuery, ErrorKind, Reply, Request};
 pub use rows::{ArcList, ArcRow, ArcRows, SumList, VertexList};
 pub use trail::Trail;
 

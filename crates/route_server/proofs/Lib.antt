@@ -1,5 +1,7 @@
-pub mod LineLemmas
-pub mod LongLines
+pub mod GivingLemmas
+pub mod AskingLemmas
 pub mod InputLemmas
 pub mod ServingLemmas
 pub mod AnsweringLemmas
+pub mod ReplyLemmas
+pub mod SendingLemmas

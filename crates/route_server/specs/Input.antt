@@ -9,22 +9,22 @@ use Rattle.std.specs.Prelude.{◌≡◌, ℕ, List, [], ◌∷◌, ◌++◌}
 use Rattle.road_text.specs.declared.line_reader.LineReader.{LineReader}
 use Rattle.road_text.specs.Reader.{held, budget}
 use Rattle.road_text.specs.Behind.{IsBehind, IsRead, IsOver, IsBroken}
-use Rattle.route_server.specs.declared.lines.Asked.{Asked}
+use Rattle.line_front.specs.declared.requests.Parsed.{Parsed}
 use Rattle.route_server.specs.declared.input.NextLine.{NextLine}
 use Rattle.route_server.specs.declared.input.NextLine.TheVariants as the
-use Rattle.route_server.specs.Lines.{asked_of, most_input}
+use Rattle.route_server.specs.Asking.{asked_by, most_input}
 
 abbrev pub IsAt : LineReader → List ℕ → List ℕ → List (List ℕ) → Type 0
 IsAt reader text rest before = IsBehind most_input (budget reader) text (held reader ++ rest) before
 
-pub record OneMore (reader : LineReader) (text rest : List ℕ) (before : List (List ℕ)) (asked : Asked) : Type 0 where
+pub record OneMore (reader : LineReader) (text rest : List ℕ) (before : List (List ℕ)) (asked : Parsed) : Type 0 where
   pub line : List ℕ
-  pub is : asked ≡ asked_of line
+  pub is : asked ≡ asked_by line
   pub behind : IsAt reader text rest (before ++ line ∷ [])
 
-pub record OneLast (text : List ℕ) (before : List (List ℕ)) (asked : Asked) : Type 0 where
+pub record OneLast (text : List ℕ) (before : List (List ℕ)) (asked : Parsed) : Type 0 where
   pub line : List ℕ
-  pub is : asked ≡ asked_of line
+  pub is : asked ≡ asked_by line
   pub read : IsRead most_input text (before ++ line ∷ [])
 
 abbrev pub Goes : LineReader → LineReader → List ℕ → List ℕ → NextLine → Type 0

@@ -1,9 +1,12 @@
 pub mod Words
-pub mod Lines
-pub mod Replies
+pub mod Giving
+pub mod Grids
+pub mod Asking
 pub mod Serving
 pub mod Served
 pub mod Input
 pub mod Statuses
 pub mod Loading
 pub mod Answering
+pub mod Buffers
+pub mod Desks

@@ -2,11 +2,14 @@
 --   Loads None r            there is no such file: a read fault
 --   Loads (Some bytes) r    the star of the graph that the bytes give, or their first fault; a read fault and want
 --                           of memory may come instead
+--   ends_as e               how a run ends that met this error
 use Rattle.std.specs.Prelude.{◌≡◌, ℕ, List, Option, Some, None, Result, Ok, Err}
 use Rattle.road_model.specs.Graph.{Graph}
 use Rattle.dimacs_reader.specs.declared.fault.GraphError.{GraphError}
 use Rattle.dimacs_reader.specs.declared.fault.GraphError.TheVariants.{Refused, ReadFault, NoMemory}
 use Rattle.dimacs_reader.specs.Gr.{gr_text}
+use Rattle.route_server.specs.declared.status.Status.{Status}
+use Rattle.route_server.specs.declared.status.Status.TheVariants as status
 
 abbrev pub Loads : Option (List ℕ) → Result Graph GraphError → Type 0
 Loads None (Ok graph) = ⊥
@@ -17,3 +20,8 @@ Loads (Some bytes) (Ok graph) = gr_text bytes ≡ Ok graph
 Loads (Some bytes) (Err (Refused fault)) = gr_text bytes ≡ Err fault
 Loads (Some bytes) (Err ReadFault) = Unit {0}
 Loads (Some bytes) (Err NoMemory) = Unit {0}
+
+abbrev pub ends_as : GraphError → Status
+ends_as (Refused fault) = status.GraphRefused fault
+ends_as ReadFault = status.ReadFault
+ends_as NoMemory = status.NoMemory

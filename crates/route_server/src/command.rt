@@ -1,52 +1,29 @@
 //! The top call.
 
-ghost use Rattle.std.specs.Prelude.{◌≡◌, ◌↔◌, ◌≤◌, ◌⊎◌, None, IfSome, map, string_bytes};
+ghost use Rattle.std.specs.Prelude.{◌≡◌, ◌≢◌, ◌↔◌, ◌≤◌, ◌⊎◌, ℕ, None, Some, IfSome, map, string_bytes};
 ghost use Rattle.road_io.specs.Told.{IfTold};
 ghost use Rattle.road_io.specs.Count.{HasRisen};
-ghost use Rattle.route_server.specs.Words.{file_of};
+ghost use Rattle.route_server.specs.Words.{command_of, name_of};
 ghost use Rattle.route_server.specs.Answering.{AnswersFile};
+ghost use Rattle.route_server.specs.Giving.{Gives, GivesOf, IsCheck, IsPrint};
+ghost use Rattle.route_server.specs.Grids.{IsMade, IsSurveyed};
+ghost use Rattle.route_server.specs.declared.words.Command.TheVariants as command;
+ghost use Rattle.route_server.specs.declared.words.Grid.{Grid as Made};
 
-use crate::load::load;
-use crate::serve::serve;
+use crate::answer::answer;
+use crate::graphs::{check, print};
+use crate::grids::{make, survey};
 use crate::status::Status;
-use crate::words::graph_name;
-use dimacs_reader::GraphError;
+use crate::words::{Command, graph_name, read_command};
 use road_io::{Shelf, Sink, Source};
 use std::alloc::Global;
 use std::thread::Threads;
 
-/// Answers the request lines of the input over the named graph file.
-fn answer<F: Shelf, S: Source, K: Sink>(
-    alloc: Global,
-    name: &str,
-    shelf: &mut F,
-    input: &mut S,
-    output: &mut K,
-) -> Status
-    ensures answers { IfSome (F.left shelf.old) (λ told.
-        IfTold (S.left input.old) (S.left input.new) (λ text rest.
-        IfTold (K.written output.old) (K.written output.new) (λ out now.
-        AnswersFile (told.files name.now) text rest out now result))) }
-    ensures known { result ≡ Status.Usage → ⊥ }
-    ensures read_cause { result ≡ Status.ReadFault →
-        HasRisen (F.faults shelf.old) (F.faults shelf.new) ⊎ HasRisen (S.faults input.old) (S.faults input.new) }
-    ensures write_cause { result ≡ Status.WriteFault → HasRisen (K.faults output.old) (K.faults output.new) }
-    ensures shelf_count { F.faults shelf.old ≤ F.faults shelf.new }
-    ensures input_count { S.faults input.old ≤ S.faults input.new }
-    ensures output_count { K.faults output.old ≤ K.faults output.new }
-{
-    match load(alloc, name, shelf) {
-        Ok(star) => serve(alloc, &star, input, output),
-        Err(GraphError::Refused(fault)) => Status::GraphRefused(fault),
-        Err(GraphError::ReadFault) => Status::ReadFault,
-        Err(GraphError::NoMemory) => Status::NoMemory,
-    }
-}
-
-/// Does all that the program does: takes the words of the command line, reads the graph file from the shelf and the
-/// requests from the input, and writes the replies to the output.
+/// Does all that the program does: takes the words of the command line, reads graph files from the shelf and requests
+/// from the input, and writes to the output.
 ///
-/// It takes 40 bytes an arc and 8 a vertex for the graph, and for one request at a time what its search needs.
+/// `check` and `print` take 16 bytes an arc, `make` 16 bytes an arc of its grid, `answer` and `survey` 40 bytes an arc and 8 a vertex, and
+/// for one request at a time what its searches need.
 pub fn run<R: Threads + Sync, F: Shelf, S: Source, K: Sink>(
     _rt: &R,
     alloc: Global,
@@ -55,14 +32,31 @@ pub fn run<R: Threads + Sync, F: Shelf, S: Source, K: Sink>(
     input: &mut S,
     output: &mut K,
 ) -> Status
-    ensures usage { (result ≡ Status.Usage) ↔ (file_of (map (λ w. string_bytes w) words.now) ≡ None) }
+    ensures usage { (result ≡ Status.Usage) ↔ (command_of (map (λ w. string_bytes w) words.now) ≡ None) }
 
-    // Over a shelf, an input and an output that tell their bytes, the bytes written are the replies.
-    ensures answers { IfSome (file_of (map (λ w. string_bytes w) words.now)) (λ name.
+    // Over a shelf, an input and an output that tell their bytes, this is what stands written.
+    ensures check { command_of (map (λ w. string_bytes w) words.now) ≡ Some command.Check →
+        IfSome (F.left shelf.old) (λ told.
+        IfTold (K.written output.old) (K.written output.new) (λ out now.
+        GivesOf IsCheck (told.files (name_of (map (λ w. string_bytes w) words.now))) out now result)) }
+    ensures print { command_of (map (λ w. string_bytes w) words.now) ≡ Some command.Print →
+        IfSome (F.left shelf.old) (λ told.
+        IfTold (K.written output.old) (K.written output.new) (λ out now.
+        GivesOf IsPrint (told.files (name_of (map (λ w. string_bytes w) words.now))) out now result)) }
+    ensures make { (grid : Made) → command_of (map (λ w. string_bytes w) words.now) ≡ Some (command.Make grid) →
+        IfTold (K.written output.old) (K.written output.new) (λ out now.
+        Gives (IsMade grid) out now result) }
+    ensures survey { (grid : Made) (queries : ℕ) →
+        command_of (map (λ w. string_bytes w) words.now) ≡ Some (command.Survey grid queries) →
+        IfTold (K.written output.old) (K.written output.new) (λ out now.
+        Gives (IsSurveyed grid queries) out now result) }
+    ensures answer { command_of (map (λ w. string_bytes w) words.now) ≡ Some command.Answer →
         IfSome (F.left shelf.old) (λ told.
         IfTold (S.left input.old) (S.left input.new) (λ text rest.
         IfTold (K.written output.old) (K.written output.new) (λ out now.
-        AnswersFile (told.files name) text rest out now result)))) }
+        AnswersFile (told.files (name_of (map (λ w. string_bytes w) words.now))) text rest out now result))) }
+    ensures unread { command_of (map (λ w. string_bytes w) words.now) ≢ Some command.Answer →
+        S.left input.new ≡ S.left input.old }
 
     // Faults come from outside alone.
     ensures read_cause { result ≡ Status.ReadFault →
@@ -72,8 +66,15 @@ pub fn run<R: Threads + Sync, F: Shelf, S: Source, K: Sink>(
     ensures input_count { S.faults input.old ≤ S.faults input.new }
     ensures output_count { K.faults output.old ≤ K.faults output.new }
 {
-    match graph_name(words) {
-        Some(name) => answer(alloc, name, shelf, input, output),
-        None => Status::Usage,
+    let Some(command) = read_command(words) else {
+        return Status::Usage;
+    };
+    let name = graph_name(words);
+    match command {
+        Command::Check => check(alloc, name, shelf, output),
+        Command::Print => print(alloc, name, shelf, output),
+        Command::Make(grid) => make(alloc, grid, output),
+        Command::Survey(grid, queries) => survey(alloc, grid, queries, output),
+        Command::Answer => answer(alloc, name, shelf, input, output),
     }
 }

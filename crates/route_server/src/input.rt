@@ -5,21 +5,20 @@ ghost use Rattle.road_io.specs.Told.{IfTold};
 ghost use Rattle.road_io.specs.Count.{HasRisen};
 ghost use Rattle.road_text.specs.Reader.{held, budget};
 ghost use Rattle.route_server.specs.Input.{IsMore, Goes};
+ghost use Rattle.route_server.specs.Desks.{IsReadersNext};
 
-use crate::lines::{Asked, read_line};
+use line_front::{MAX_LINE, Parsed, Role, read_request};
 use road_io::Source;
+use road_model::ErrorKind;
 use road_text::{Advance, LineReader};
-
-/// The longest line that is kept; a longer one asks nothing that is known.
-pub const MAX_LINE: usize = 1024;
 
 /// The next of the lines of an input.
 #[derive(Clone, Copy, Debug, PartialEq, Eq)]
 pub enum NextLine {
     /// It asks this, and more lines may follow.
-    More(Asked),
+    More(Parsed),
     /// It asks this, and is the last.
-    Last(Asked),
+    Last(Parsed),
     /// There is none.
     End,
     /// The input is too long.
@@ -33,16 +32,17 @@ pub fn next_line<S: Source>(reader: &mut LineReader, input: &mut S) -> NextLine
     requires { reader.old.longest ≡ 1024 }
     ensures goes { IfTold (S.left input.old) (S.left input.new)
         (λ rest after. Goes reader.old reader.new rest after result) }
+    ensures reader { IsReadersNext result }
     ensures falls { IsMore result → budget reader.new < budget reader.old }
     ensures longest { reader.new.longest ≡ 1024 }
     ensures count { S.faults input.old ≤ S.faults input.new }
     ensures cause { result ≡ NextLine.Failed → HasRisen (S.faults input.old) (S.faults input.new) }
 {
     match reader.advance(input) {
-        Advance::Whole => NextLine::More(read_line(reader.line())),
-        Advance::Last => NextLine::Last(read_line(reader.line())),
-        Advance::Long { whole: true, .. } => NextLine::More(Asked::Other),
-        Advance::Long { whole: false, .. } => NextLine::Last(Asked::Other),
+        Advance::Whole => NextLine::More(read_request(reader.line(), Role::Reader)),
+        Advance::Last => NextLine::Last(read_request(reader.line(), Role::Reader)),
+        Advance::Long { whole: true, .. } => NextLine::More(Parsed::Error(ErrorKind::Long)),
+        Advance::Long { whole: false, .. } => NextLine::Last(Parsed::Error(ErrorKind::Long)),
         Advance::End => NextLine::End,
         Advance::Spent => NextLine::Over,
         Advance::Failed => NextLine::Failed,

@@ -1,30 +1,55 @@
-//! A graph file, laid out for searches.
+//! Graph files.
 
 ghost use Rattle.std.specs.Prelude.{◌≡◌, ◌≤◌, Err, IfSome};
 ghost use Rattle.road_io.specs.Count.{HasRisen};
-ghost use Rattle.route_server.specs.Loading.{Loads};
+ghost use Rattle.route_server.specs.Loading.{Loads, ends_as};
 
+use crate::status::Status;
 use dimacs_reader::{GraphError, read_graph};
 use forward_star::Star;
 use road_io::{Picked, Shelf};
+use road_model::GraphFile;
 use std::alloc::Global;
 
-/// Reads the named graph file. It takes 40 bytes an arc and 8 a vertex.
-pub fn load<F: Shelf>(alloc: Global, name: &str, shelf: &mut F) -> Result<Star, GraphError>
+/// Reads the named graph file. It takes 16 bytes an arc.
+pub fn read_named<F: Shelf>(
+    alloc: Global,
+    name: &str,
+    shelf: &mut F,
+) -> Result<GraphFile, GraphError>
     ensures loads { IfSome (F.left shelf.old) (λ told. Loads (told.files name.now) result) }
     ensures count { F.faults shelf.old ≤ F.faults shelf.new }
     ensures cause { result ≡ Err GraphError.ReadFault → HasRisen (F.faults shelf.old) (F.faults shelf.new) }
 {
     match shelf.pick(name) {
-        Picked::Ready => {}
-        Picked::Failed => return Err(GraphError::ReadFault),
+        Picked::Ready => read_graph(alloc, shelf),
+        Picked::Failed => Err(GraphError::ReadFault),
     }
-    let graph = match read_graph(alloc, shelf) {
+}
+
+/// Reads the named graph file, and lays it out for searches. It takes 40 bytes an arc and 8 a vertex.
+pub fn load<F: Shelf>(alloc: Global, name: &str, shelf: &mut F) -> Result<Star, GraphError>
+    ensures loads { IfSome (F.left shelf.old) (λ told. Loads (told.files name.now) result) }
+    ensures count { F.faults shelf.old ≤ F.faults shelf.new }
+    ensures cause { result ≡ Err GraphError.ReadFault → HasRisen (F.faults shelf.old) (F.faults shelf.new) }
+{
+    let graph = match read_named(alloc, name, shelf) {
         Ok(graph) => graph,
         Err(error) => return Err(error),
     };
     match Star::build(alloc, graph) {
         Ok(star) => Ok(star),
         Err(_) => Err(GraphError::NoMemory),
+    }
+}
+
+/// How a run ends whose graph file couldn't be read.
+pub fn ends_as(error: GraphError) -> Status
+    ensures { result ≡ ends_as error }
+{
+    match error {
+        GraphError::Refused(fault) => Status::GraphRefused(fault),
+        GraphError::ReadFault => Status::ReadFault,
+        GraphError::NoMemory => Status::NoMemory,
     }
 }

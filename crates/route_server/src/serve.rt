@@ -1,19 +1,25 @@
 //! The loop over request lines.
 
-ghost use Rattle.std.specs.Prelude.{◌≡◌, ◌≤◌, ◌⊎◌, OnOk, OnErr};
+ghost use Rattle.std.specs.Prelude.{◌≡◌, ◌≤◌};
 ghost use Rattle.road_io.specs.Told.{IfTold};
 ghost use Rattle.road_io.specs.Count.{HasRisen};
-ghost use Rattle.route_server.specs.Serving.{IsReplyTo, Stops};
-ghost use Rattle.route_server.specs.Served.{Serves};
+ghost use Rattle.road_model.specs.Dist.{HaveSameDist};
+ghost use Rattle.line_front.specs.Replies.{HasItems};
+ghost use Rattle.route_server.specs.Desks.{IsReadersLine};
+ghost use Rattle.route_server.specs.Serving.{Stops};
+ghost use Rattle.route_server.specs.Served.{Serves, Sends};
 
-use crate::input::{MAX_LINE, NextLine, next_line};
-use crate::lines::Asked;
-use crate::replies::reply_to;
+use crate::answering::{Answer, Said, say};
+use crate::gathered::Gathered;
+use crate::input::{NextLine, next_line};
 use crate::status::Status;
 use forward_star::Star;
+use line_front::{MAX_LINE, Parsed, write_reply};
 use road_io::{Put, Sink, Source};
+use road_model::Oracle;
 use road_text::LineReader;
 use std::alloc::Global;
+use tree_search::PlainOracle;
 
 /// The most bytes of input.
 const MAX_INPUT: u64 = 4294967296;
@@ -22,33 +28,57 @@ const MAX_INPUT: u64 = 4294967296;
 #[derive(Clone, Copy, Debug, PartialEq, Eq)]
 pub enum Served {
     Written,
+    /// The line ends the run.
+    Quit,
     WriteFault,
     NoMemory,
 }
 
-/// Writes the reply to one request in one piece. `reply` is the buffer that it is put together in.
-fn serve_one<K: Sink>(
-    alloc: Global,
-    star: &Star,
-    asked: Asked,
-    reply: &mut Vec<u8>,
-    output: &mut K,
-) -> Served
-    ensures serves { IfTold (K.written output.old) (K.written output.new)
-        (λ out now. Serves star.now asked out now result) }
+/// Writes a reply in one piece. `gathered` is the buffer that it is put together in.
+fn send<K: Sink>(answer: &Answer, gathered: &mut Gathered, output: &mut K) -> Served
+    requires items { HasItems answer.now.reply answer.now.shown }
+    ensures sends { IfTold (K.written output.old) (K.written output.new)
+        (λ out now. Sends answer.now out now result) }
     ensures count { K.faults output.old ≤ K.faults output.new }
     ensures cause { result ≡ Served.WriteFault → HasRisen (K.faults output.old) (K.faults output.new) }
 {
-    if reply_to(alloc, star, asked, reply).is_err() {
-        return Served::NoMemory;
-    }
-    match output.write(reply) {
-        Put::Done => Served::Written,
-        Put::Failed => Served::WriteFault,
+    gathered.clear();
+    match write_reply(gathered, &answer.reply, answer.shown.as_ref()) {
+        Put::Done => match output.write(gathered.bytes()) {
+            Put::Done => Served::Written,
+            Put::Failed => Served::WriteFault,
+        },
+        Put::Failed => Served::NoMemory,
     }
 }
 
-/// Answers the lines of the input, one reply each, until it ends or a call of the outside fails.
+/// Answers one line.
+fn serve_one<O: Oracle, K: Sink>(
+    alloc: Global,
+    star: &Star,
+    oracle: &mut O,
+    asked: &Parsed,
+    gathered: &mut Gathered,
+    output: &mut K,
+) -> Served
+    requires reader { IsReadersLine asked.now }
+    requires same { HaveSameDist star.now (O.graph oracle.old) }
+    ensures serves { IfTold (K.written output.old) (K.written output.new)
+        (λ out now. Serves star.now asked.now out now result) }
+    ensures same { O.graph oracle.new ≡ O.graph oracle.old }
+    ensures count { K.faults output.old ≤ K.faults output.new }
+    ensures cause { result ≡ Served.WriteFault → HasRisen (K.faults output.old) (K.faults output.new) }
+{
+    match say(alloc, star, oracle, asked) {
+        Said::Nothing => Served::Written,
+        Said::Quit => Served::Quit,
+        Said::Answered(answer) => send(&answer, gathered, output),
+    }
+}
+
+/// Answers the lines of the input until one ends the run, or the input ends, or a call of the outside fails.
+///
+/// It keeps 128 KB for lines, 8 bytes a vertex for distances, and the longest reply.
 pub fn serve<S: Source, K: Sink>(
     alloc: Global,
     star: &Star,
@@ -64,22 +94,32 @@ pub fn serve<S: Source, K: Sink>(
     ensures write_count { K.faults output.old ≤ K.faults output.new }
     ensures write_cause { result ≡ Status.WriteFault → HasRisen (K.faults output.old) (K.faults output.new) }
 {
+    let _limits = star.graph();
+    let Ok(mut oracle) = PlainOracle::new(alloc, star) else {
+        return Status::NoMemory;
+    };
     let Ok(mut reader) = LineReader::new(alloc, MAX_LINE, MAX_INPUT) else {
         return Status::NoMemory;
     };
-    let mut reply = Vec::new(alloc);
+    let mut gathered = Gathered::new(alloc);
     'lines: loop {
         match next_line(&mut reader, input) {
-            NextLine::More(asked) => match serve_one(alloc, star, asked, &mut reply, output) {
-                Served::Written => {}
-                Served::WriteFault => return Status::WriteFault,
-                Served::NoMemory => return Status::NoMemory,
-            },
-            NextLine::Last(asked) => match serve_one(alloc, star, asked, &mut reply, output) {
-                Served::Written => return Status::Done,
-                Served::WriteFault => return Status::WriteFault,
-                Served::NoMemory => return Status::NoMemory,
-            },
+            NextLine::More(asked) => {
+                match serve_one(alloc, star, &mut oracle, &asked, &mut gathered, output) {
+                    Served::Written => {}
+                    Served::Quit => return Status::Done,
+                    Served::WriteFault => return Status::WriteFault,
+                    Served::NoMemory => return Status::NoMemory,
+                }
+            }
+            NextLine::Last(asked) => {
+                match serve_one(alloc, star, &mut oracle, &asked, &mut gathered, output) {
+                    Served::Written => return Status::Done,
+                    Served::Quit => return Status::Done,
+                    Served::WriteFault => return Status::WriteFault,
+                    Served::NoMemory => return Status::NoMemory,
+                }
+            }
             NextLine::End => return Status::Done,
             NextLine::Over => return Status::InputLong,
             NextLine::Failed => return Status::ReadFault,

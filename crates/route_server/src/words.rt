@@ -1,9 +1,36 @@
 //! The words of the command line.
 
-ghost use Rattle.std.specs.Prelude.{◌≡◌, ◌==◌, map, string_bytes};
-ghost use Rattle.std.specs.Option.{option_copied};
-ghost use Rattle.std.specs.Str.{bytes_eq};
-ghost use Rattle.route_server.specs.Words.{file_of, has_dash};
+ghost use Rattle.std.specs.Prelude.{◌≡◌, ◌≤◌, IfSome, map, string_bytes};
+ghost use Rattle.grid_maker.specs.Grid.{IsSide};
+ghost use Rattle.road_text.specs.Numbers.{number_of};
+ghost use Rattle.route_server.specs.Words.{behind_word, command_of, for_file, grid_of, has_dash, make_of, name_of, survey_of, up_to, IsSized};
+
+use road_text::number;
+
+/// The longest side of a grid.
+const MAX_SIDE: u64 = 4096;
+
+/// The most queries of a survey.
+const MAX_QUERIES: u64 = 10000;
+
+/// A grid to be made.
+#[derive(Clone, Copy, Debug, PartialEq, Eq)]
+pub struct Grid {
+    pub seed: u64,
+    pub width: u32,
+    pub height: u32,
+}
+
+/// What the words ask for. The graph file of `check`, `print` and `answer` is the second word.
+#[derive(Clone, Copy, Debug, PartialEq, Eq)]
+pub enum Command {
+    Check,
+    Print,
+    Make(Grid),
+    /// With the number of queries.
+    Survey(Grid, u32),
+    Answer,
+}
 
 /// Whether a word begins with a dash.
 fn has_dash(word: &[u8]) -> bool
@@ -15,16 +42,109 @@ fn has_dash(word: &[u8]) -> bool
     }
 }
 
-/// The graph file of `answer GRAPH`.
-pub fn graph_name(words: &[String]) -> Option<&str>
-    ensures { option_copied result ≡ file_of (map (λ w. string_bytes w) words.now) }
+/// The command, where one word follows that may name a file.
+fn for_file(command: Command, words: &[String]) -> Option<Command>
+    requires { IsSized command }
+    ensures sized { IfSome result IsSized }
+    ensures command { result ≡ for_file command (map (λ w. string_bytes w) words.now) }
 {
-    let [word, name] = words else {
+    let [name] = words else {
         return None;
     };
-    if word.as_str() == "answer" && !has_dash(name.as_bytes()) {
-        Some(name.as_str())
-    } else {
-        None
+    if has_dash(name.as_bytes()) {
+        return None;
+    }
+    Some(command)
+}
+
+/// A number from 1 to the greatest.
+fn up_to(most: u64, word: &String) -> Option<u64>
+    ensures number { result ≡ up_to most (string_bytes word.now) }
+    ensures range { IfSome result (λ n. (1 ≤ n) × (n ≤ most)) }
+{
+    let n = number(word.as_bytes())?;
+    if 1 <= n && n <= most { Some(n) } else { None }
+}
+
+/// The grid of three words.
+fn read_grid(seed: &String, width: &String, height: &String) -> Option<Grid>
+    ensures grid { result ≡ grid_of (string_bytes seed.now) (string_bytes width.now) (string_bytes height.now) }
+    ensures sides { IfSome result (λ grid. IsSide grid.width × IsSide grid.height) }
+{
+    let seed = number(seed.as_bytes())?;
+    let width = up_to(MAX_SIDE, width)? as u32;
+    let height = up_to(MAX_SIDE, height)? as u32;
+    Some(Grid {
+        seed,
+        width,
+        height,
+    })
+}
+
+/// The words behind `make`.
+fn read_make(words: &[String]) -> Option<Command>
+    ensures command { result ≡ make_of (map (λ w. string_bytes w) words.now) }
+    ensures sized { IfSome result IsSized }
+{
+    let [seed, width, height] = words else {
+        return None;
+    };
+    Some(Command::Make(read_grid(seed, width, height)?))
+}
+
+/// The words behind `survey`.
+fn read_survey(words: &[String]) -> Option<Command>
+    ensures command { result ≡ survey_of (map (λ w. string_bytes w) words.now) }
+    ensures sized { IfSome result IsSized }
+{
+    let [seed, width, height, queries] = words else {
+        return None;
+    };
+    let grid = read_grid(seed, width, height)?;
+    let queries = up_to(MAX_QUERIES, queries)? as u32;
+    Some(Command::Survey(grid, queries))
+}
+
+/// The command of a word and the words behind it.
+fn behind_word(word: &str, words: &[String]) -> Option<Command>
+    ensures command { result ≡ behind_word word.now (map (λ w. string_bytes w) words.now) }
+    ensures sized { IfSome result IsSized }
+{
+    if word == "check" {
+        return for_file(Command::Check, words);
+    }
+    if word == "print" {
+        return for_file(Command::Print, words);
+    }
+    if word == "make" {
+        return read_make(words);
+    }
+    if word == "survey" {
+        return read_survey(words);
+    }
+    if word == "answer" {
+        return for_file(Command::Answer, words);
+    }
+    None
+}
+
+/// The command of a command line.
+pub fn read_command(words: &[String]) -> Option<Command>
+    ensures command { result ≡ command_of (map (λ w. string_bytes w) words.now) }
+    ensures sized { IfSome result IsSized }
+{
+    let [word, behind @ ..] = words else {
+        return None;
+    };
+    behind_word(word.as_str(), behind)
+}
+
+/// The second word.
+pub fn graph_name(words: &[String]) -> &str
+    ensures { result.now ≡ name_of (map (λ w. string_bytes w) words.now) }
+{
+    match words {
+        [_, name, ..] => name.as_str(),
+        _ => "",
     }
 }

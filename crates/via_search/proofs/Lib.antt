@@ -8,4 +8,8 @@ pub mod ViaTrails
 pub mod Refusals
 pub mod Names
 pub mod ListedRoutes
-pub mod Planned
+pub mod Posed
+pub mod CanonicalExists
+pub mod PathsThrough
+pub mod LeastVia
+pub mod Judgements

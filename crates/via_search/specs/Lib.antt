@@ -1,3 +1,4 @@
 pub mod Candidates
 pub mod Judging
 pub mod Listing
+pub mod Through

@@ -21,7 +21,7 @@ pub(crate) struct Candidate {
 }
 
 /// The candidate of a vertex, if its path is within the bound. The lengths are known before the path is.
-fn candidate_of(
+pub(crate) fn candidate_of(
     alloc: Global,
     pair: &TreePair<'_>,
     v: Vertex,

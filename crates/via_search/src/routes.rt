@@ -15,7 +15,7 @@ use road_model::{ArcList, NoMemory, Optimum, Oracle, Query, Route, RouteList};
 use route_ranking::{order_routes, rank};
 use std::alloc::Global;
 
-fn is_optimum(candidate: &Candidate, optimum: &Optimum) -> bool
+pub(crate) fn is_optimum(candidate: &Candidate, optimum: &Optimum) -> bool
     requires { candidate.now.arcs ≡ optimum.now.arcs → candidate.now.length ≡ optimum.now.length }
     ensures { IsTrue result ↔ (candidate.now.arcs ≡ optimum.now.arcs) }
 {

@@ -1,9 +1,12 @@
+ghost use Rattle.std.specs.Prelude.{IfOk};
+ghost use Rattle.road_model.specs.Graph.{IsVertex};
 ghost use Rattle.road_model.specs.Dist.{HaveSameDist};
 
 use super::*;
 use forward_star::Star;
 use road_model::{
-    ArcList, ArcRow, ArcRows, GraphFile, NoMemory, Oracle, Plan, Query, Ratio, Vertex,
+    ArcList, ArcRow, ArcRows, GraphFile, NoMemory, Oracle, Pair, Plan, Query, Ratio, Verdict,
+    Vertex,
 };
 use std::alloc::{AllocError, Global};
 use std::fmt::Write;
@@ -71,6 +74,25 @@ fn ratio_of(ratio: (u64, u64), cap: u64) -> Result<Ratio, Fail> {
     Ok(Ratio::new(ratio.0, ratio.1, cap)?)
 }
 
+// A query of the star, from one vertex to another.
+fn query_of(star: &Star, ends: (u32, u32), ratios: Ratios) -> Result<Query, Fail>
+    ensures { IfOk result
+        (λ q. IsVertex star.now.vertices q.from × IsVertex star.now.vertices q.to) }
+{
+    let vertices = star.graph().vertices();
+    let (from, to) = ends;
+    if from == 0 || from > vertices || to == 0 || to > vertices {
+        return Err("no such vertex".into());
+    }
+    Ok(Query {
+        from: Vertex(from),
+        to: Vertex(to),
+        gamma: ratio_of(ratios[0], 1)?,
+        alpha: ratio_of(ratios[1], 1)?,
+        epsilon: ratio_of(ratios[2], 4)?,
+    })
+}
+
 // The plan of a query; none where it found no memory.
 fn plan_over<O: Oracle>(
     alloc: Global,
@@ -81,18 +103,7 @@ fn plan_over<O: Oracle>(
 ) -> Result<Option<Plan>, Fail>
     requires { HaveSameDist star.now (O.graph oracle.old) }
 {
-    let vertices = star.graph().vertices();
-    let (from, to) = ends;
-    if from == 0 || from > vertices || to == 0 || to > vertices {
-        return Err("no such vertex".into());
-    }
-    let query = Query {
-        from: Vertex(from),
-        to: Vertex(to),
-        gamma: ratio_of(ratios[0], 1)?,
-        alpha: ratio_of(ratios[1], 1)?,
-        epsilon: ratio_of(ratios[2], 4)?,
-    };
+    let query = query_of(star, ends, ratios)?;
     Ok(plan(alloc, star, oracle, &query).ok())
 }
 
@@ -187,6 +198,96 @@ fn lists_the_optimum_and_each_alternative(rt: HostRuntime) -> Result<(), Fail> {
     Ok(())
 }
 
+fn write_pair(text: &mut String, pair: &Pair) -> Result<(), Fail> {
+    let (first, last, distance) = (pair.first, pair.last, pair.distance);
+    write!(text, "{first} {last} {distance}")?;
+    Ok(())
+}
+
+// A verdict as a text: its name and its numbers.
+fn write_verdict(text: &mut String, verdict: &Verdict) -> Result<(), Fail> {
+    match verdict {
+        Verdict::Unreached => text.push_str("unreached")?,
+        Verdict::Optimum => text.push_str("optimum")?,
+        Verdict::Long(length) => write!(text, "long {length}")?,
+        Verdict::Shared(sum) => write!(text, "shared {sum}")?,
+        Verdict::Local(pair) => {
+            text.push_str("local ")?;
+            write_pair(text, pair)?;
+        }
+        Verdict::Stretch(pair) => {
+            text.push_str("stretch ")?;
+            write_pair(text, pair)?;
+        }
+        Verdict::Listed(name) => {
+            let number = name.number();
+            write!(text, "listed {number}")?;
+        }
+    }
+    Ok(())
+}
+
+// The verdict on a vertex; none where it found no memory.
+fn verdict_over<O: Oracle>(
+    alloc: Global,
+    star: &Star,
+    oracle: &mut O,
+    ends: (u32, u32),
+    via: u32,
+    ratios: Ratios,
+) -> Result<Option<Option<Verdict>>, Fail>
+    requires { HaveSameDist star.now (O.graph oracle.old) }
+{
+    let vertices = star.graph().vertices();
+    if via == 0 || via > vertices {
+        return Err("no such vertex".into());
+    }
+    let query = query_of(star, ends, ratios)?;
+    Ok(verdict(alloc, star, oracle, &query, Vertex(via)).ok())
+}
+
+fn verdict_of(
+    alloc: Global,
+    star: &Star,
+    ends: (u32, u32),
+    via: u32,
+    ratios: Ratios,
+) -> Result<String, Fail> {
+    let _limits = star.graph();
+    let mut oracle = PlainOracle::new(alloc, star)?;
+    let found = verdict_over(alloc, star, &mut oracle, ends, via, ratios)?;
+    let mut text = String::new(alloc);
+    match &found.ok_or("no memory")? {
+        Some(verdict) => write_verdict(&mut text, verdict)?,
+        None => text.push_str("none")?,
+    }
+    Ok(text)
+}
+
+#[test]
+fn says_why_a_path_is_or_is_not_listed(rt: HostRuntime) -> Result<(), Fail> {
+    let local: Ratios = [(4, 5), (13, 40), (1, 4)];
+    let long: Ratios = [(4, 5), (1, 4), (9, 100)];
+    let shared: Ratios = [(1, 10), (1, 4), (1, 4)];
+    let stretched: Ratios = [(1, 1), (0, 1), (1, 1)];
+    let cases: [(u32, Arcs, (u32, u32), u32, Ratios, &str); 8] = [
+        (6, A, (1, 6), 4, DEFAULT, "listed 3"),
+        (6, A, (1, 6), 5, DEFAULT, "unreached"),
+        (6, A, (1, 6), 2, DEFAULT, "optimum"),
+        (6, A, (6, 1), 4, DEFAULT, "none"),
+        (6, A, (1, 6), 3, local, "local 0 3 20"),
+        (6, A, (1, 6), 3, long, "long 22"),
+        (4, STUB, (1, 3), 4, stretched, "stretch 0 3 1"),
+        (6, C, (1, 6), 4, shared, "shared 5"),
+    ];
+    for (vertices, arcs, ends, via, ratios, wanted) in cases {
+        let star = star_of(rt.alloc(), vertices, arcs)?;
+        let found = verdict_of(rt.alloc(), &star, ends, via, ratios)?;
+        assert_eq!(rt; found.as_str(), wanted);
+    }
+    Ok(())
+}
+
 /// An oracle that has no memory for an answer.
 #[derive(Drop)]
 struct Refuses<'a> {
@@ -213,5 +314,8 @@ fn asks_its_oracle(rt: HostRuntime) -> Result<(), Fail> {
     let mut oracle = Refuses { star: &star };
     let made = plan_over(rt.alloc(), &star, &mut oracle, (1, 6), DEFAULT)?;
     assert!(rt; made.is_none());
+    let mut oracle = Refuses { star: &star };
+    let found = verdict_over(rt.alloc(), &star, &mut oracle, (1, 6), 4, DEFAULT)?;
+    assert!(rt; found.is_none());
     Ok(())
 }

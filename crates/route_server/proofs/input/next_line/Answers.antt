@@ -1,16 +1,16 @@
 use Rattle.std.proofs.Common.{◌∙◌, ap}
 use Rattle.road_io.proofs.ToldLemmas.{IfTold_then}
-use Rattle.route_server.specs.Lines.{asked_of}
-use Rattle.route_server.proofs.InputLemmas.{go_whole, go_last, go_long_told, go_long_last_told, go_end, go_over, go_failed}
+use Rattle.route_server.specs.Asking.{asked_by}
+use Rattle.route_server.proofs.InputLemmas.{go_whole, go_last, go_long_told, go_long_last_told, go_end, go_over, go_failed, reader_asked}
 use Rattle.route_server.proofs.input.next_line.Goals as goal
 
 pub returns-in-Whole-clause-goes : goal.returns-in-Whole-clause-goes
 returns-in-Whole-clause-goes g c =
-    IfTold_then _ _ _ _ (go_whole c.args.reader.now _ _ (c.read_line.ensures ∙ ap asked_of c.line.ensures)) c.in-Whole.ensures.steps
+    IfTold_then _ _ _ _ (go_whole c.args.reader.now _ _ (c.read_request.ensures ∙ ap asked_by c.line.ensures)) c.in-Whole.ensures.steps
 
 pub returns-in-Last-clause-goes : goal.returns-in-Last-clause-goes
 returns-in-Last-clause-goes g c =
-    IfTold_then _ _ _ _ (go_last c.args.reader.now c.advance.new.self _ (c.read_line-in-Last.ensures ∙ ap asked_of c.line-in-Last.ensures)) c.in-Last.ensures.steps
+    IfTold_then _ _ _ _ (go_last c.args.reader.now c.advance.new.self _ (c.read_request-in-Last.ensures ∙ ap asked_by c.line-in-Last.ensures)) c.in-Last.ensures.steps
 
 pub returns-in-Long-true-default-clause-goes : goal.returns-in-Long-true-default-clause-goes
 returns-in-Long-true-default-clause-goes g c =
@@ -28,3 +28,9 @@ returns-in-Spent-clause-goes g c = IfTold_then _ _ _ _ (go_over c.args.reader.no
 
 pub returns-in-Failed-clause-goes : goal.returns-in-Failed-clause-goes
 returns-in-Failed-clause-goes g c = IfTold_then _ _ _ _ (go_failed c.args.reader.now c.advance.new.self) c.in-Failed.ensures.steps
+
+pub returns-in-Whole-clause-reader : goal.returns-in-Whole-clause-reader
+returns-in-Whole-clause-reader g c = reader_asked _ _ c.read_request.ensures
+
+pub returns-in-Last-clause-reader : goal.returns-in-Last-clause-reader
+returns-in-Last-clause-reader g c = reader_asked _ _ c.read_request-in-Last.ensures

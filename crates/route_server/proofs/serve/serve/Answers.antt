@@ -1,6 +1,26 @@
-use Rattle.std.proofs.Common.{arith}
-use Rattle.route_server.proofs.ServingLemmas.{runs_more, ends_more_fault, ends_more_memory, ends_last, ends_last_fault, ends_last_memory, ends_end, ends_over, ends_failed}
+use Rattle.std.proofs.Common.{ap, arith, ◌∙◌}
+use Rattle.tree_search.specs.Oracle.{Questions}
+use Rattle.forward_star.proofs.Bound.{dists_below}
+use Rattle.route_server.proofs.ServingLemmas.{runs_start, runs_more, ends_unread, ends_quit, ends_more_fault, ends_more_memory, ends_last, ends_last_quit, ends_last_fault, ends_last_memory, ends_end, ends_over, ends_failed}
 use Rattle.route_server.proofs.serve.serve.Goals as goal
+
+pub new-requires-clause-near : goal.new-requires-clause-near
+new-requires-clause-near g c = dists_below c.args.star.now c.graph-limits.ensures.limits
+
+pub returns-in_default-clause-stops : goal.returns-in_default-clause-stops
+returns-in_default-clause-stops g c = ends_unread c.args.star.now _ _
+
+pub returns-in_default-new-clause-stops : goal.returns-in_default-new-clause-stops
+returns-in_default-new-clause-stops g c = ends_unread c.args.star.now _ _
+
+pub lines-init : goal.lines-init
+lines-init g c = (
+  c.in-Ok-new.ensures.limit,
+  runs_start c.args.star.now c.in-Ok-new.reader _ _ c.in-Ok-new.ensures,
+  omega arith,
+  omega arith,
+  ap (λ (o : Questions). o.graph) c.in-Ok.ensures,
+)
 
 pub lines-preserved : goal.lines-preserved
 lines-preserved g c = (
@@ -8,7 +28,12 @@ lines-preserved g c = (
   runs_more c.args.star.now c.lines.reader c.next_line.new.reader c.in-More.asked _ _ _ _ _ _ c.lines.invariant.1 c.in-More.ensures.goes c.in-Written.ensures.serves,
   omega (arith, c.lines.invariant.2, c.in-More.ensures.count),
   omega (arith, c.lines.invariant.3, c.in-Written.ensures.count),
+  c.in-Written.ensures.same ∙ c.lines.invariant.4,
 )
+
+pub returns-in-Quit-clause-stops : goal.returns-in-Quit-clause-stops
+returns-in-Quit-clause-stops g c =
+    ends_quit c.args.star.now c.lines.reader c.next_line.new.reader c.in-More.asked _ _ _ _ _ _ c.lines.invariant.1 c.in-More.ensures.goes c.in-Quit.ensures.serves
 
 pub returns-in-WriteFault-clause-stops : goal.returns-in-WriteFault-clause-stops
 returns-in-WriteFault-clause-stops g c =
@@ -17,18 +42,6 @@ returns-in-WriteFault-clause-stops g c =
 pub returns-in-NoMemory-clause-stops : goal.returns-in-NoMemory-clause-stops
 returns-in-NoMemory-clause-stops g c =
     ends_more_memory c.args.star.now c.lines.reader c.next_line.new.reader c.in-More.asked _ _ _ _ _ _ c.lines.invariant.1 c.in-More.ensures.goes c.in-NoMemory.ensures.serves
-
-pub returns-in-Written-serve_one-clause-stops : goal.returns-in-Written-serve_one-clause-stops
-returns-in-Written-serve_one-clause-stops g c =
-    ends_last c.args.star.now c.lines.reader c.next_line.new.reader c.in-Last.asked _ _ _ _ _ _ c.lines.invariant.1 c.in-Last.ensures.goes c.in-Written-serve_one.ensures.serves
-
-pub returns-in-WriteFault-serve_one-clause-stops : goal.returns-in-WriteFault-serve_one-clause-stops
-returns-in-WriteFault-serve_one-clause-stops g c =
-    ends_last_fault c.args.star.now c.lines.reader c.next_line.new.reader c.in-Last.asked _ _ _ _ _ _ c.lines.invariant.1 c.in-Last.ensures.goes c.in-WriteFault-serve_one.ensures.serves
-
-pub returns-in-NoMemory-serve_one-clause-stops : goal.returns-in-NoMemory-serve_one-clause-stops
-returns-in-NoMemory-serve_one-clause-stops g c =
-    ends_last_memory c.args.star.now c.lines.reader c.next_line.new.reader c.in-Last.asked _ _ _ _ _ _ c.lines.invariant.1 c.in-Last.ensures.goes c.in-NoMemory-serve_one.ensures.serves
 
 pub returns-in-End-clause-stops : goal.returns-in-End-clause-stops
 returns-in-End-clause-stops g c =
@@ -41,3 +54,19 @@ returns-in-Over-clause-stops g c =
 pub returns-in-Failed-clause-stops : goal.returns-in-Failed-clause-stops
 returns-in-Failed-clause-stops g c =
     ends_failed c.args.star.now c.lines.reader c.next_line.new.reader _ _ _ _ _ c.lines.invariant.1 c.in-Failed.ensures.goes
+
+pub returns-in-Written-serve_one-clause-stops : goal.returns-in-Written-serve_one-clause-stops
+returns-in-Written-serve_one-clause-stops g c =
+    ends_last c.args.star.now c.lines.reader c.next_line.new.reader c.in-Last.asked _ _ _ _ _ _ c.lines.invariant.1 c.in-Last.ensures.goes c.in-Written-serve_one.ensures.serves
+
+pub returns-in-Quit-serve_one-clause-stops : goal.returns-in-Quit-serve_one-clause-stops
+returns-in-Quit-serve_one-clause-stops g c =
+    ends_last_quit c.args.star.now c.lines.reader c.next_line.new.reader c.in-Last.asked _ _ _ _ _ _ c.lines.invariant.1 c.in-Last.ensures.goes c.in-Quit-serve_one.ensures.serves
+
+pub returns-in-WriteFault-serve_one-clause-stops : goal.returns-in-WriteFault-serve_one-clause-stops
+returns-in-WriteFault-serve_one-clause-stops g c =
+    ends_last_fault c.args.star.now c.lines.reader c.next_line.new.reader c.in-Last.asked _ _ _ _ _ _ c.lines.invariant.1 c.in-Last.ensures.goes c.in-WriteFault-serve_one.ensures.serves
+
+pub returns-in-NoMemory-serve_one-clause-stops : goal.returns-in-NoMemory-serve_one-clause-stops
+returns-in-NoMemory-serve_one-clause-stops g c =
+    ends_last_memory c.args.star.now c.lines.reader c.next_line.new.reader c.in-Last.asked _ _ _ _ _ _ c.lines.invariant.1 c.in-Last.ensures.goes c.in-NoMemory-serve_one.ensures.serves

@@ -9,6 +9,7 @@ invariant-lines g l =
     × Runs l.star l.reader (g.S.Source.left l.fn.input) (g.S.Source.left l.input) (g.K.Sink.written l.fn.output) (g.K.Sink.written l.output)
     × (g.S.Source.faults l.fn.input ≤ g.S.Source.faults l.input)
     × (g.K.Sink.faults l.fn.output ≤ g.K.Sink.faults l.output)
+    × (l.oracle.graph ≡ l.star)
 
 abbrev pub decreases-lines : goal.decreases-lines
 decreases-lines g l = budget l.reader

@@ -1,0 +1,4 @@
+pub mod Listings
+pub mod Bounds
+pub mod Progress
+pub mod Grids

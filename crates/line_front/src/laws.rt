@@ -1,0 +1,14 @@
+//! Laws of request lines, each of which is a contract of a function that does nothing.
+
+ghost use Rattle.std.specs.Prelude.{◌≡◌, ◌++◌, codes};
+ghost use Rattle.road_model.specs.declared.request.Cursor.{Cursor as Place};
+ghost use Rattle.road_model.specs.declared.request.Request.TheVariants.{Next};
+ghost use Rattle.route_ranking.specs.Cursors.{IsSmall, cursor_text};
+ghost use Rattle.line_front.specs.Requests.{parsed_of};
+ghost use Rattle.line_front.specs.declared.requests.Parsed.TheVariants as parsed;
+ghost use Rattle.line_front.specs.declared.requests.Role.TheVariants as role;
+
+/// The cursor of a `more` line is read behind the word `next` as that cursor.
+pub fn a_written_cursor_is_a_request()
+    ensures { (c : Place) → IsSmall c → parsed_of role.Reader (codes "next " ++ cursor_text c) ≡ parsed.Request (Next c) }
+{}

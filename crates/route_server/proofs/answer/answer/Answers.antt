@@ -1,0 +1,15 @@
+use Rattle.std.proofs.Common.{IfSome, subst, sym}
+use Rattle.road_io.specs.Told.{IfTold}
+use Rattle.route_server.specs.declared.status.Status.{Status}
+use Rattle.route_server.specs.Answering.{AnswersFile}
+use Rattle.route_server.proofs.AnsweringLemmas.{answers_not_loaded}
+use Rattle.route_server.proofs.answer.answer.Goals as goal
+
+pub returns-in-Err-clause-answers : goal.returns-in-Err-clause-answers
+returns-in-Err-clause-answers g c =
+    subst (λ (how : Status). IfSome (g.F.Source.left c.args.shelf.now) (λ told.
+    IfTold (g.S.Source.left c.args.input.now) (g.S.Source.left c.args.input.now) (λ text rest.
+    IfTold (g.K.Sink.written c.args.output.now) (g.K.Sink.written c.args.output.now) (λ out now.
+    AnswersFile (told.files c.args.name.now) text rest out now how))))
+    (sym c.ends_as.ensures)
+    (answers_not_loaded _ _ _ c.args.name.now c.in-Err.error c.in-Err.ensures.loads)

@@ -1,0 +1,66 @@
+-- What a run that writes one text does: out stood written before, now stands written.
+--   Gives IsText out now status     Done: a text that is one stands behind it; WriteFault: a front of one does; a read fault and
+--                                   want of memory: nothing was written
+--   GivesOf IsText file ..          the same of the graph that a file gives. Its first fault comes before anything is written; where
+--                                   there is no such file, a read fault does
+--   check_text g                    the line that says how large a graph is
+use Rattle.std.specs.Prelude.{◌≡◌, ℕ, List, [], ◌∷◌, ◌++◌, Option, Some, None, Result, Ok, Err, length, codes, decimal}
+use Rattle.road_io.specs.Sink.{WritesFront}
+use Rattle.road_model.specs.Graph.{Graph}
+use Rattle.dimacs_reader.specs.declared.fault.GraphFault.{GraphFault}
+use Rattle.dimacs_reader.specs.Gr.{gr_text}
+use Rattle.dimacs_reader.specs.Text.{graph_text}
+use Rattle.road_io.specs.declared.writing.Put.{Put}
+use Rattle.road_io.specs.declared.writing.Put.TheVariants.{Done, Failed}
+use Rattle.route_server.specs.declared.status.Status.{Status}
+use Rattle.route_server.specs.declared.status.Status.TheVariants as the
+
+pub record IsGiven (IsText : List ℕ → Type 0) (out now : List ℕ) : Type 0 where
+  pub text : List ℕ
+  pub is_text : IsText text
+  pub is : now ≡ out ++ text
+
+pub record IsGivenFront (IsText : List ℕ → Type 0) (out now : List ℕ) : Type 0 where
+  pub text : List ℕ
+  pub is_text : IsText text
+  pub is : WritesFront text out now
+
+abbrev pub Gives : (List ℕ → Type 0) → List ℕ → List ℕ → Status → Type 0
+Gives IsText out now the.Done = IsGiven IsText out now
+Gives IsText out now the.Usage = ⊥
+Gives IsText out now (the.GraphRefused fault) = ⊥
+Gives IsText out now the.ReadFault = now ≡ out
+Gives IsText out now the.WriteFault = IsGivenFront IsText out now
+Gives IsText out now the.NoMemory = now ≡ out
+Gives IsText out now the.InputLong = ⊥
+
+abbrev pub Refuses : GraphFault → Status → Type 0
+Refuses fault the.Done = ⊥
+Refuses fault the.Usage = ⊥
+Refuses fault (the.GraphRefused found) = found ≡ fault
+Refuses fault the.ReadFault = Unit {0}
+Refuses fault the.WriteFault = ⊥
+Refuses fault the.NoMemory = Unit {0}
+Refuses fault the.InputLong = ⊥
+
+abbrev pub GivesGraph : (Graph → List ℕ → Type 0) → Result Graph GraphFault → List ℕ → List ℕ → Status → Type 0
+GivesGraph IsText (Ok graph) out now status = Gives (IsText graph) out now status
+GivesGraph IsText (Err fault) out now status = Refuses fault status × (now ≡ out)
+
+abbrev pub GivesOf : (Graph → List ℕ → Type 0) → Option (List ℕ) → List ℕ → List ℕ → Status → Type 0
+GivesOf IsText None out now status = (status ≡ the.ReadFault) × (now ≡ out)
+GivesOf IsText (Some bytes) out now status = GivesGraph IsText (gr_text bytes) out now status
+
+abbrev pub check_text : Graph → List ℕ
+check_text g = codes "graph vertices " ++ decimal g.vertices ++ codes " arcs " ++ decimal (length g.arcs) ++ 10 ∷ []
+
+abbrev pub IsCheck : Graph → List ℕ → Type 0
+IsCheck g text = text ≡ check_text g
+
+abbrev pub IsPrint : Graph → List ℕ → Type 0
+IsPrint g text = text ≡ graph_text g
+
+-- how a run ends with its last write
+abbrev pub ends_by : Put → Status
+ends_by Done = the.Done
+ends_by Failed = the.WriteFault

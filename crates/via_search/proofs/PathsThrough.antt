@@ -1,0 +1,61 @@
+-- The path through a vertex, from the two distances that it is made of.
+use Rattle.std.proofs.Common.{◌≡◌, ℕ, ◌+◌, ◌^◌, ◌<◌, ◌≤◌, ◌++◌, List, Option, Some, None, IfSome, refl, sym, ap, ◌∙◌, subst}
+use Rattle.road_model.specs.Graph.{Graph, IsVertex}
+use Rattle.road_model.specs.File.{IsWithinLimits}
+use Rattle.road_model.specs.Walk.{walk_length}
+use Rattle.road_model.specs.Dist.{IsDist, HaveSameDist}
+use Rattle.road_model.specs.Alternatives.{IsVia}
+use Rattle.forward_star.proofs.Bound.{dists_below}
+use Rattle.canonical_trees.specs.Trees.{Trees}
+use Rattle.canonical_trees.proofs.Balls.{dist_below}
+use Rattle.via_search.specs.declared.candidates.Candidate.{Candidate}
+use Rattle.via_search.specs.Candidates.{IsCandidate, FindsCandidate}
+use Rattle.via_search.specs.Through.{HasPathThrough, IsLengthThrough}
+use Rattle.via_search.proofs.ViaPaths.{IsVia-unique, via_length}
+use Rattle.via_search.proofs.CanonicalExists.{first_of_dist, last_of_dist}
+
+-- an oracle's distance is one of the star, and it isn't long
+pub dist_here : (g o : Graph) (u v : ℕ) (d : Option ℕ) → HaveSameDist g o → IsDist o u v d → IsDist g u v d
+dist_here g o u v d same h = (same.dist u v d).1 h
+
+pub dist_short : (g : Graph) (u v : ℕ) (d : Option ℕ) → IsWithinLimits g → IsDist g u v d → IfSome d (λ k. k < 2 ^ 57)
+dist_short g u v None limits h = tt
+dist_short g u v (Some k) limits h = dist_below g u v k (2 ^ 57) (dists_below g limits) h
+
+pub path_through : (g : Graph) (s t v a b : ℕ) (d e : Option ℕ) → IsWithinLimits g → IsVertex g.vertices v → IsDist g s v d → d ≡ Some a → IsDist g v t e → e ≡ Some b → HasPathThrough g s t v (a + b)
+path_through g s t v a b d e limits inside near_dist is_near left_dist is_left =
+    let near : IsDist g s v (Some a) = subst (λ (x : Option ℕ). IsDist g s v x) is_near near_dist in
+    let left : IsDist g v t (Some b) = subst (λ (x : Option ℕ). IsDist g v t x) is_left left_dist in
+    let front = first_of_dist g s v a limits.is_graph near in
+    let back = last_of_dist g v t b limits.is_graph left in
+    let through : IsVia g s t v (front.path ++ back.path) = record {
+      vertex = inside;
+      front = front.path;
+      back = back.path;
+      first = front.first;
+      last = back.last;
+      joined = refl;
+    } in
+    record {
+      path = front.path ++ back.path;
+      through = through;
+      is_length = sym (via_length g s t v a b (front.path ++ back.path) through near left);
+    }
+
+-- the candidate of the vertex is as long
+pub candidate_long : (g : Graph) (s t v l : ℕ) (c : Candidate) → HasPathThrough g s t v l → c.via ≡ v → IsCandidate g s t c → c.length ≡ l
+candidate_long g s t v l c h is candidate =
+    let own : IsVia g s t v c.arcs = subst (λ (x : ℕ). IsVia g s t x c.arcs) is candidate.through in
+    let same : c.arcs ≡ h.path = IsVia-unique g s t v c.arcs h.path own h.through in
+    candidate.is_length ∙ (ap (λ (p : List ℕ). walk_length g p) same ∙ sym h.is_length)
+
+-- what the trees of the query gave, told of its star
+pub found_here : (ts : Trees) (g : Graph) (s t : ℕ) (radius : Option ℕ) (l v : ℕ) (o : Option Candidate) → ts ≡ record { graph = g; source = s; target = t; radius = radius } → FindsCandidate ts.graph ts.source ts.target l v o → FindsCandidate g s t l v o
+found_here ts g s t radius l v o is h =
+    subst (λ (x : Trees). FindsCandidate x.graph x.source x.target l v o) is h
+
+pub found_some : (g : Graph) (s t l v : ℕ) (o : Option Candidate) (c : Candidate) → FindsCandidate g s t l v o → o ≡ Some c → (c.via ≡ v) × IsCandidate g s t c × (walk_length g c.arcs ≤ l)
+found_some g s t l v o c h is = subst (λ (x : Option Candidate). FindsCandidate g s t l v x) is h
+
+pub through_some : (g : Graph) (s t v l : ℕ) (o : Option ℕ) → IsLengthThrough g s t v o → o ≡ Some l → HasPathThrough g s t v l
+through_some g s t v l o h is = subst (λ (x : Option ℕ). IsLengthThrough g s t v x) is h

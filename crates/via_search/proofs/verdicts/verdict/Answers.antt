@@ -1,0 +1,16 @@
+use Rattle.via_search.proofs.Posed.{posed_of}
+use Rattle.via_search.proofs.Judgements.{long_of_length, not_stretched}
+use Rattle.via_search.proofs.PathsThrough.{through_some}
+use Rattle.via_search.proofs.verdicts.verdict.Goals as goal
+
+pub returns-then-not-stretches-clause-verdict : goal.returns-then-not-stretches-clause-verdict
+returns-then-not-stretches-clause-verdict g c =
+    let net = c.args.star.now in
+    let q = c.args.query.now in
+    let posed = posed_of net q c.in_ok-optimum.field-0 c.in-Some.optimum c.graph-limits.ensures.limits c.requires.source c.in-Some.is c.in_ok-optimum.ensures.found c.in_ok-optimum.ensures.short in
+    let through = through_some net q.from q.to c.args.via c.in-Some-2.length c.in_ok-length.field-0 c.in_ok-length.ensures.length c.in-Some-2.is in
+    record {
+      optimum = c.in-Some.optimum.arcs;
+      is_optimum = posed.best.0;
+      is_verdict = long_of_length net q c.in-Some.optimum c.args.via c.in-Some-2.length posed through (not_stretched q.epsilon c.in-Some-2.length c.in-Some.optimum.length c.stretches.result c.stretches.ensures c.if-not-stretches.true);
+    }

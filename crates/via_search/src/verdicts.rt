@@ -1,0 +1,134 @@
+//! The verdict on a vertex.
+
+ghost use Rattle.std.specs.Prelude.{◌≡◌, ◌<◌, ◌^◌, IfOk, IfSome};
+ghost use Rattle.road_model.specs.Graph.{IsVertex};
+ghost use Rattle.road_model.specs.Dist.{IsDist, HaveSameDist};
+ghost use Rattle.road_model.specs.Fraction.{Stretches};
+ghost use Rattle.road_model.specs.Verdicts.{IsVerdict, IsVerdictOf};
+ghost use Rattle.via_search.specs.Candidates.{IsPosed};
+ghost use Rattle.via_search.specs.Judging.{StaysCounted};
+ghost use Rattle.via_search.specs.Through.{HasPathThrough, IsLengthThrough};
+
+use crate::candidates::candidate_of;
+use crate::judging::{Judged, judge};
+use crate::naming::name_of;
+use crate::routes::is_optimum;
+use canonical_trees::{optimum, trees};
+use forward_star::Star;
+use road_model::{NoMemory, Optimum, Oracle, Query, Verdict, Vertex};
+use std::alloc::Global;
+
+/// A distance of the star, by an oracle that may be of another graph.
+fn distance<O: Oracle>(
+    star: &Star,
+    oracle: &mut O,
+    from: Vertex,
+    to: Vertex,
+) -> Result<Option<u64>, NoMemory>
+    requires from { IsVertex star.now.vertices from }
+    requires to { IsVertex star.now.vertices to }
+    requires same { HaveSameDist star.now (O.graph oracle.old) }
+    ensures answer { IfOk result (λ d. IsDist star.now from to d) }
+    ensures short { IfOk result (λ d. IfSome d (λ k. k < 2 ^ 57)) }
+    ensures same { O.graph oracle.new ≡ O.graph oracle.old }
+    ensures counted { StaysCounted (O.asked oracle.old) (O.asked oracle.new) }
+{
+    let _limits = star.graph();
+    oracle.distance(from, to)
+}
+
+/// The length of the path through `via`; none where no walk leads through it. Two questions at most.
+fn length_through<O: Oracle>(
+    star: &Star,
+    oracle: &mut O,
+    query: &Query,
+    via: Vertex,
+) -> Result<Option<u64>, NoMemory>
+    requires source { IsVertex star.now.vertices query.now.from }
+    requires target { IsVertex star.now.vertices query.now.to }
+    requires through { IsVertex star.now.vertices via }
+    requires same { HaveSameDist star.now (O.graph oracle.old) }
+    ensures length { IfOk result (IsLengthThrough star.now query.now.from query.now.to via) }
+    ensures same { O.graph oracle.new ≡ O.graph oracle.old }
+    ensures counted { StaysCounted (O.asked oracle.old) (O.asked oracle.new) }
+{
+    let _limits = star.graph();
+    let Some(near) = distance(star, oracle, query.from, via)? else {
+        return Ok(None);
+    };
+    let Some(left) = distance(star, oracle, via, query.to)? else {
+        return Ok(None);
+    };
+    Ok(Some(near + left))
+}
+
+/// The verdict on a vertex whose path is `length` long, within the stretch bound. The trees reach no farther than
+/// the path does.
+fn verdict_on_path<O: Oracle>(
+    alloc: Global,
+    star: &Star,
+    oracle: &mut O,
+    query: &Query,
+    optimum: &Optimum,
+    via: Vertex,
+    length: u64,
+) -> Result<Verdict, NoMemory>
+    requires posed { IsPosed star.now query.now optimum.now }
+    requires target { IsVertex star.now.vertices query.now.to }
+    requires through { HasPathThrough star.now query.now.from query.now.to via length }
+    requires near { Stretches query.now.epsilon length optimum.now.length }
+    requires same { HaveSameDist star.now (O.graph oracle.old) }
+    ensures verdict { IfOk result (IsVerdict star.now query.now optimum.now.arcs via) }
+    ensures same { O.graph oracle.new ≡ O.graph oracle.old }
+    ensures counted { StaysCounted (O.asked oracle.old) (O.asked oracle.new) }
+{
+    let pair = trees(alloc, star, query.from, query.to, Some(length))?;
+    let Some(candidate) = candidate_of(alloc, &pair, via, length)? else {
+        unreachable!()
+    };
+    if is_optimum(&candidate, optimum) {
+        return Ok(Verdict::Optimum);
+    }
+    match judge(alloc, star, oracle, query, optimum, &candidate)? {
+        Judged::Long => unreachable!(),
+        Judged::Shared(sum) => Ok(Verdict::Shared(sum)),
+        Judged::Local(failing) => Ok(Verdict::Local(failing)),
+        Judged::Stretch(failing) => Ok(Verdict::Stretch(failing)),
+        Judged::Passed(_) => Ok(Verdict::Listed(name_of(alloc, &pair, &candidate)?)),
+    }
+}
+
+/// Why the path through a vertex is, or isn't, among the alternatives of a query: the first reason that holds, in
+/// the order of [`Verdict`]'s variants. None exactly where no walk leads from the source to the target.
+///
+/// It takes a search that stops at the target, and two questions to the oracle. Where the path is within the
+/// stretch bound, it takes also two searches as far as the path is long, 16 bytes a vertex, the tests of this one
+/// path, and memory linear in its arcs. An `Err` leaves the oracle as good as before.
+pub fn verdict<O: Oracle>(
+    alloc: Global,
+    star: &Star,
+    oracle: &mut O,
+    query: &Query,
+    via: Vertex,
+) -> Result<Option<Verdict>, NoMemory>
+    requires source { IsVertex star.now.vertices query.now.from }
+    requires target { IsVertex star.now.vertices query.now.to }
+    requires through { IsVertex star.now.vertices via }
+    requires same { HaveSameDist star.now (O.graph oracle.old) }
+    ensures verdict { IfOk result (IsVerdictOf star.now query.now via) }
+    ensures same { O.graph oracle.new ≡ O.graph oracle.old }
+    ensures counted { StaysCounted (O.asked oracle.old) (O.asked oracle.new) }
+{
+    let _limits = star.graph();
+    let Some(optimum) = optimum(alloc, star, query.from, query.to)? else {
+        return Ok(None);
+    };
+    let Some(length) = length_through(star, oracle, query, via)? else {
+        return Ok(Some(Verdict::Unreached));
+    };
+    if !query.epsilon.stretches(length, optimum.length) {
+        return Ok(Some(Verdict::Long(length)));
+    }
+    let found = verdict_on_path(alloc, star, oracle, query, &optimum, via, length)?;
+    Ok(Some(found))
+}
