@@ -1,6 +1,6 @@
 //! The commands over graph files and grids, and the words of the command line.
 
-use crate::graphs::SMALL;
+use crate::graphs::{SHORT, SMALL};
 use crate::runs::{NEVER, Run, check};
 use dimacs_reader::{GraphFault, GraphKind};
 use route_server::Status;
@@ -53,8 +53,9 @@ fn files_are_checked(rt: HostRuntime) -> Result<(), Fail> {
 
 #[test]
 fn the_first_fault_of_a_file_is_named(rt: HostRuntime) -> Result<(), Fail> {
-    let rows: [(&[u8], u64, GraphKind); 11] = [
+    let rows: [(&[u8], u64, GraphKind); 12] = [
         (b"", 1, GraphKind::NoProblem),
+        (SHORT, 9, GraphKind::TooFewArcs),
         (b"p sp 2 1\na 1 2 0\n", 2, GraphKind::LengthZero),
         (b"p sp 2 1\na 1 2 4294967296\n", 2, GraphKind::LengthLarge),
         (b"p sp 2 2\na 1 2 5\n", 3, GraphKind::TooFewArcs),

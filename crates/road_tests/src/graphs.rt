@@ -4,6 +4,10 @@
 pub const SMALL: &[u8] =
     b"c road graph\nc\np sp 6 6\na 1 2 10\na 2 6 10\na 1 3 11\na 3 4 6\na 4 6 5\na 2 3 1\n";
 
+/// The same without its last arc.
+pub const SHORT: &[u8] =
+    b"c road graph\nc\np sp 6 6\na 1 2 10\na 2 6 10\na 1 3 11\na 3 4 6\na 4 6 5\n";
+
 /// A detour of two long arcs, which no alternative may take.
 pub const DETOUR: &[u8] = b"p sp 6 5\na 1 2 10\na 2 6 10\na 1 3 11\na 3 6 11\na 2 3 1\n";
 
