@@ -9,7 +9,8 @@ use Rattle.road_model.specs.Canonical.{IsFirst, IsLast}
 use Rattle.road_model.specs.Alternatives.{IsVia, IsAlternative, IsName, IsPlateau}
 use Rattle.road_model.specs.Answers.{IsRoute, IsListing, IsAnswer}
 use Rattle.road_model.proofs.Dists.{IsDist-same}
-use Rattle.road_laws.specs.Worked.{arc, graph_a, asked, optimum_a, route_a, plan_a}
+use Rattle.road_model.specs.Queries.{usual}
+use Rattle.road_laws.specs.Worked.{arc, graph_a, optimum_a, route_a, plan_a}
 use Rattle.road_laws.proofs.Potentials.{dist_by, shortest_by}
 use Rattle.road_laws.proofs.LeastArcs.{last_by, first_by}
 use Rattle.road_laws.proofs.Vias.{IsVia-unique, no_via}
@@ -92,7 +93,7 @@ other_via (suc (suc (suc (suc (suc (suc (suc v))))))) p h other = absurd (omega 
 pub differs : ◌≢◌ {A = List ℕ} (3 ∷ 4 ∷ 5 ∷ []) (1 ∷ 2 ∷ [])
 differs e = let first : 3 ≡ 1 = ap (λ (l : List ℕ). get_or l 0 0) e in apart 1 3 (omega arith) (sym first)
 
-pub alternative_a : IsAlternative graph_a (asked 1 6) (1 ∷ 2 ∷ []) (3 ∷ 4 ∷ 5 ∷ [])
+pub alternative_a : IsAlternative graph_a (usual 1 6) (1 ∷ 2 ∷ []) (3 ∷ 4 ∷ 5 ∷ [])
 alternative_a = record { via = 3; through = via_3; other = differs; admissible = admissible_a }
 
 least_via : (v : ℕ) → (v ≡ 3) ⊎ (v ≡ 4) → 3 ≤ v
@@ -132,24 +133,24 @@ plateau_a = record {
       omega (arith, low.0, high.1));
 }
 
-pub route_is : IsRoute graph_a (asked 1 6) (1 ∷ 2 ∷ []) route_a
+pub route_is : IsRoute graph_a (usual 1 6) (1 ∷ 2 ∷ []) route_a
 route_is = record {
   alternative = alternative_a;
   numbers = record { is_name = name_a; is_length = refl; is_shared = refl; is_plateau = plateau_a; is_rank = refl };
 }
 
-only : (k : ℕ) (d : Route) → k < 1 → IsRoute graph_a (asked 1 6) (1 ∷ 2 ∷ []) (get_or (route_a ∷ []) k d)
+only : (k : ℕ) (d : Route) → k < 1 → IsRoute graph_a (usual 1 6) (1 ∷ 2 ∷ []) (get_or (route_a ∷ []) k d)
 only zero d lt = route_is
 only (suc k) d lt = absurd (omega arith)
 
-pub listing_a : IsListing graph_a (asked 1 6) (1 ∷ 2 ∷ []) (route_a ∷ [])
+pub listing_a : IsListing graph_a (usual 1 6) (1 ∷ 2 ∷ []) (route_a ∷ [])
 listing_a = record {
   each = only;
   every = (λ p h. record { route = route_a; listed = (0, omega arith, refl); path = sym (other_via h.via p h.through h.other).path });
   ascending = ((λ k d lt. absurd (omega arith)), tt);
 }
 
-pub answer_a : IsAnswer graph_a (asked 1 6) plan_a
+pub answer_a : IsAnswer graph_a (usual 1 6) plan_a
 answer_a = ((first_6, refl), listing_a)
 
 others_of : Plan → List Route
@@ -161,12 +162,12 @@ unfolding others_of
 nothing_listed e = let long : 0 ≡ 1 = ap (λ (p : Plan). length (others_of p)) e in apart 0 1 (omega arith) long
 
 -- the optimum alone is no answer, and neither is the route listed twice
-pub not_optimum_alone : IsAnswer graph_a (asked 1 6) (Found optimum_a []) → ⊥
-not_optimum_alone h = nothing_listed (answer_is_one_lem graph_a (asked 1 6) (Found optimum_a []) plan_a h answer_a)
+pub not_optimum_alone : IsAnswer graph_a (usual 1 6) (Found optimum_a []) → ⊥
+not_optimum_alone h = nothing_listed (answer_is_one_lem graph_a (usual 1 6) (Found optimum_a []) plan_a h answer_a)
 
 twice : Found optimum_a (route_a ∷ route_a ∷ []) ≡ plan_a → ⊥
 unfolding others_of
 twice e = let long : 2 ≡ 1 = ap (λ (p : Plan). length (others_of p)) e in apart 1 2 (omega arith) (sym long)
 
-pub not_twice : IsAnswer graph_a (asked 1 6) (Found optimum_a (route_a ∷ route_a ∷ [])) → ⊥
-not_twice h = twice (answer_is_one_lem graph_a (asked 1 6) (Found optimum_a (route_a ∷ route_a ∷ [])) plan_a h answer_a)
+pub not_twice : IsAnswer graph_a (usual 1 6) (Found optimum_a (route_a ∷ route_a ∷ [])) → ⊥
+not_twice h = twice (answer_is_one_lem graph_a (usual 1 6) (Found optimum_a (route_a ∷ route_a ∷ [])) plan_a h answer_a)

@@ -10,7 +10,8 @@ use Rattle.road_model.specs.Places.{trail_of, vertex_at, between, IsDistAt}
 use Rattle.road_model.specs.Tests.{IsTested, FailsLocal, FailsStretch, NoneFails, IsLeastFailure}
 use Rattle.road_model.specs.Alternatives.{IsVia, HasNoVia, IsAdmissible}
 use Rattle.road_model.proofs.Dists.{IsDist-same}
-use Rattle.road_laws.specs.Worked.{arc, graph_a, graph_b, graph_s, ratio, asked}
+use Rattle.road_model.specs.Queries.{ratio, usual}
+use Rattle.road_laws.specs.Worked.{arc, graph_a, graph_b, graph_s}
 use Rattle.road_laws.proofs.Potentials.{dist_by, none_by}
 use Rattle.road_laws.proofs.Walked.{dist_1_6}
 
@@ -103,7 +104,7 @@ pub untested_on_bound : IsTested (ratio 3 10) 20 trail_a 0 3 → ⊥
 untested_on_bound (inl h) = omega arith
 untested_on_bound (inr h) = omega (arith, h.1)
 
-pub admissible_a : IsAdmissible graph_a (asked 1 6) (1 ∷ 2 ∷ []) (3 ∷ 4 ∷ 5 ∷ [])
+pub admissible_a : IsAdmissible graph_a (usual 1 6) (1 ∷ 2 ∷ []) (3 ∷ 4 ∷ 5 ∷ [])
 admissible_a = record { limited = omega arith; optimal = none_local_a (ratio 1 4) untested_a; bounded = none_stretch_a }
 
 pub least_below_bound : IsLeastFailure (FailsLocal graph_a (ratio 13 40) 20 trail_a) 0 3 20
@@ -148,7 +149,7 @@ last_b (suc (suc b)) c h = omega arith
 pub least_b : IsLeastFailure (FailsLocal graph_b (ratio 1 4) 20 trail_b) 0 2 20
 least_b = record { fails = fails_b; first = (λ a b c h. omega arith); last = last_b }
 
-pub refused_b : IsAdmissible graph_b (asked 1 6) (1 ∷ 2 ∷ []) (3 ∷ 4 ∷ []) → ⊥
+pub refused_b : IsAdmissible graph_b (usual 1 6) (1 ∷ 2 ∷ []) (3 ∷ 4 ∷ []) → ⊥
 refused_b h = h.optimal 0 2 20 fails_b
 
 -- graph S

@@ -2,17 +2,14 @@
 --   graph_a   a tie: vertex 3 is 11 from vertex 1 by arc 3 and by the arcs 1 and 6
 --   graph_b   a detour of two long arcs
 --   graph_s   a stub at vertex 4, which a path through it enters and leaves by the same vertex
---   asked     a query with the usual ratios: 4/5, 1/4, 1/4
 --   plan_a    the optimum of graph A from 1 to 6, and its one alternative
 use Rattle.std.specs.Prelude.{ℕ, [], ◌∷◌}
 use Rattle.road_model.specs.declared.rows.ArcRow.{ArcRow}
-use Rattle.road_model.specs.declared.answer.Query.{Query}
 use Rattle.road_model.specs.declared.answer.Optimum.{Optimum}
 use Rattle.road_model.specs.declared.answer.Route.{Route}
 use Rattle.road_model.specs.declared.answer.Plan.{Plan}
 use Rattle.road_model.specs.declared.answer.Plan.TheVariants.{Found}
 use Rattle.road_model.specs.Graph.{Graph}
-use Rattle.road_model.specs.Fraction.{Fraction}
 
 abbrev pub arc : ℕ → ℕ → ℕ → ArcRow
 arc tail head length = record { tail = tail; head = head; length = length }
@@ -25,12 +22,6 @@ graph_b = record { vertices = 6; arcs = arc 1 2 10 ∷ arc 2 6 10 ∷ arc 1 3 11
 
 abbrev pub graph_s : Graph
 graph_s = record { vertices = 4; arcs = arc 1 2 1 ∷ arc 2 3 1 ∷ arc 2 4 1 ∷ arc 4 2 1 ∷ [] }
-
-abbrev pub ratio : ℕ → ℕ → Fraction
-ratio num den = record { num = num; den = den }
-
-abbrev pub asked : ℕ → ℕ → Query
-asked from to = record { from = from; to = to; gamma = ratio 4 5; alpha = ratio 1 4; epsilon = ratio 1 4 }
 
 abbrev pub optimum_a : Optimum
 optimum_a = record { length = 20; arcs = 1 ∷ 2 ∷ [] }

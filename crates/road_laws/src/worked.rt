@@ -11,7 +11,8 @@ ghost use Rattle.road_model.specs.Changes.{after};
 ghost use Rattle.road_model.specs.Graph.{arc_at};
 ghost use Rattle.road_model.specs.Verdicts.{IsVerdict};
 ghost use Rattle.road_model.specs.declared.answer.Verdict.TheVariants as verdict;
-ghost use Rattle.road_laws.specs.Worked.{graph_a, graph_b, graph_s, ratio, asked, optimum_a, route_a, plan_a, arc};
+ghost use Rattle.road_model.specs.Queries.{ratio, usual};
+ghost use Rattle.road_laws.specs.Worked.{graph_a, graph_b, graph_s, optimum_a, route_a, plan_a, arc};
 
 /// A walk, its distance, and a pair without one.
 pub fn distances_of_a()
@@ -34,7 +35,7 @@ pub fn ties_go_by_arc_number()
 pub fn the_long_way_of_a_is_admissible()
     ensures through { IsVia graph_a 1 6 3 (3 ∷ 4 ∷ 5 ∷ []) }
     ensures not_through { IsVia graph_a 1 6 2 (3 ∷ 4 ∷ 5 ∷ []) → ⊥ }
-    ensures admissible { IsAdmissible graph_a (asked 1 6) (1 ∷ 2 ∷ []) (3 ∷ 4 ∷ 5 ∷ []) }
+    ensures admissible { IsAdmissible graph_a (usual 1 6) (1 ∷ 2 ∷ []) (3 ∷ 4 ∷ 5 ∷ []) }
     ensures nothing_shared { shared graph_a (1 ∷ 2 ∷ []) (3 ∷ 4 ∷ 5 ∷ []) ≡ 0 }
 {}
 
@@ -42,7 +43,7 @@ pub fn the_long_way_of_a_is_admissible()
 pub fn two_arcs_fail_without_their_ends()
     ensures fails { FailsLocal graph_b (ratio 1 4) 20 (trail_of graph_b 1 (3 ∷ 4 ∷ [])) 0 2 20 }
     ensures least { IsLeastFailure (FailsLocal graph_b (ratio 1 4) 20 (trail_of graph_b 1 (3 ∷ 4 ∷ []))) 0 2 20 }
-    ensures refused { IsAdmissible graph_b (asked 1 6) (1 ∷ 2 ∷ []) (3 ∷ 4 ∷ []) → ⊥ }
+    ensures refused { IsAdmissible graph_b (usual 1 6) (1 ∷ 2 ∷ []) (3 ∷ 4 ∷ []) → ⊥ }
 {}
 
 /// In graph A the inner length 6 isn't below 3/10 of 20, which is 6, and is below 13/40 of it.
@@ -59,27 +60,27 @@ pub fn closed_subpaths_fail()
 
 /// No path exactly where no walk leads there; and vertex 5 of graph A can't be a via.
 pub fn no_path_of_a()
-    ensures none { IsAnswer graph_a (asked 6 1) NoPath }
-    ensures some { IsAnswer graph_a (asked 1 6) NoPath → ⊥ }
-    ensures unreached { IsVerdict graph_a (asked 1 6) (1 ∷ 2 ∷ []) 5 verdict.Unreached }
-    ensures reached { IsVerdict graph_a (asked 1 6) (1 ∷ 2 ∷ []) 3 verdict.Unreached → ⊥ }
+    ensures none { IsAnswer graph_a (usual 6 1) NoPath }
+    ensures some { IsAnswer graph_a (usual 1 6) NoPath → ⊥ }
+    ensures unreached { IsVerdict graph_a (usual 1 6) (1 ∷ 2 ∷ []) 5 verdict.Unreached }
+    ensures reached { IsVerdict graph_a (usual 1 6) (1 ∷ 2 ∷ []) 3 verdict.Unreached → ⊥ }
 {}
 
 /// The answer of graph A from 1 to 6, by the definitions alone: neither less nor more is one.
 pub fn the_answer_of_a()
-    ensures answer { IsAnswer graph_a (asked 1 6) plan_a }
+    ensures answer { IsAnswer graph_a (usual 1 6) plan_a }
     ensures name { IsName graph_a 1 6 (3 ∷ 4 ∷ 5 ∷ []) 3 }
     ensures plateau { IsPlateau graph_a 1 6 (3 ∷ 4 ∷ 5 ∷ []) 6 }
-    ensures less { IsAnswer graph_a (asked 1 6) (Found optimum_a []) → ⊥ }
-    ensures more { IsAnswer graph_a (asked 1 6) (Found optimum_a (route_a ∷ route_a ∷ [])) → ⊥ }
+    ensures less { IsAnswer graph_a (usual 1 6) (Found optimum_a []) → ⊥ }
+    ensures more { IsAnswer graph_a (usual 1 6) (Found optimum_a (route_a ∷ route_a ∷ [])) → ⊥ }
 {}
 
 /// Vertex 4 of graph A lies on the alternative that vertex 3 names, and vertex 2 on the optimum.
 pub fn verdicts_of_a()
-    ensures listed { IsVerdict graph_a (asked 1 6) (1 ∷ 2 ∷ []) 4 (verdict.Listed 3) }
-    ensures not_by_itself { IsVerdict graph_a (asked 1 6) (1 ∷ 2 ∷ []) 4 (verdict.Listed 4) → ⊥ }
-    ensures not_long { IsVerdict graph_a (asked 1 6) (1 ∷ 2 ∷ []) 4 (verdict.Long 22) → ⊥ }
-    ensures optimum { IsVerdict graph_a (asked 1 6) (1 ∷ 2 ∷ []) 2 verdict.Optimum }
+    ensures listed { IsVerdict graph_a (usual 1 6) (1 ∷ 2 ∷ []) 4 (verdict.Listed 3) }
+    ensures not_by_itself { IsVerdict graph_a (usual 1 6) (1 ∷ 2 ∷ []) 4 (verdict.Listed 4) → ⊥ }
+    ensures not_long { IsVerdict graph_a (usual 1 6) (1 ∷ 2 ∷ []) 4 (verdict.Long 22) → ⊥ }
+    ensures optimum { IsVerdict graph_a (usual 1 6) (1 ∷ 2 ∷ []) 2 verdict.Optimum }
 {}
 
 /// A later change of an arc wins, and the other arcs stay.

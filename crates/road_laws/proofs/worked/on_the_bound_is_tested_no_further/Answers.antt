@@ -1,5 +1,5 @@
 use Rattle.road_laws.proofs.Tried.{none_local_a, untested_on_bound, least_below_bound}
-use Rattle.road_laws.specs.Worked.{ratio}
+use Rattle.road_model.specs.Queries.{ratio}
 use Rattle.road_laws.proofs.worked.on_the_bound_is_tested_no_further.Goals as goal
 
 pub returns-clause-on_it : goal.returns-clause-on_it
