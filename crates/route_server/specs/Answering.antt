@@ -1,6 +1,5 @@
 -- What a run with `answer GRAPH` does, by the contents that the shelf has under the name.
 --   Idle                  nothing was read of the input, and nothing was written
---   MayRefuse fault s     the graph's first fault; a read fault and want of memory may come before it is found
 --   AnswersGraph          over a graph file that is refused: its fault, and idle; else the lines of the input are
 --                         answered over its graph
 --   AnswersFile           where there is no such file, a read fault, and idle
@@ -10,24 +9,16 @@ use Rattle.dimacs_reader.specs.declared.fault.GraphFault.{GraphFault}
 use Rattle.dimacs_reader.specs.Gr.{gr_text}
 use Rattle.route_server.specs.declared.status.Status.{Status}
 use Rattle.route_server.specs.declared.status.Status.TheVariants as the
+use Rattle.route_server.specs.Giving.{Refuses}
 use Rattle.route_server.specs.Serving.{Stops}
 
 pub record Idle (text rest out now : List ℕ) : Type 0 where
   pub unread : rest ≡ text
   pub unwritten : now ≡ out
 
-abbrev pub MayRefuse : GraphFault → Status → Type 0
-MayRefuse fault the.Done = ⊥
-MayRefuse fault the.Usage = ⊥
-MayRefuse fault (the.GraphRefused found) = found ≡ fault
-MayRefuse fault the.ReadFault = Unit {0}
-MayRefuse fault the.WriteFault = ⊥
-MayRefuse fault the.NoMemory = Unit {0}
-MayRefuse fault the.InputLong = ⊥
-
 abbrev pub AnswersGraph : Result Graph GraphFault → List ℕ → List ℕ → List ℕ → List ℕ → Status → Type 0
 AnswersGraph (Ok graph) text rest out now status = Stops graph text rest out now status
-AnswersGraph (Err fault) text rest out now status = MayRefuse fault status × Idle text rest out now
+AnswersGraph (Err fault) text rest out now status = Refuses fault status × Idle text rest out now
 
 abbrev pub AnswersFile : Option (List ℕ) → List ℕ → List ℕ → List ℕ → List ℕ → Status → Type 0
 AnswersFile None text rest out now status = (status ≡ the.ReadFault) × Idle text rest out now

@@ -1,6 +1,7 @@
 -- What a run that writes one text does: out stood written before, now stands written.
 --   Gives IsText out now status     Done: a text that is one stands behind it; WriteFault: a front of one does; a read fault and
 --                                   want of memory: nothing was written
+--   Refuses fault status            the graph's first fault; a read fault and want of memory may come before it is found
 --   GivesOf IsText file ..          the same of the graph that a file gives. Its first fault comes before anything is written; where
 --                                   there is no such file, a read fault does
 --   check_text g                    the line that says how large a graph is
