@@ -10,7 +10,7 @@
 use Rattle.std.specs.Prelude.{◌≡◌, ◌≢◌, ◌<◌, ◌≤◌, ◌⊎◌, ◌+◌, ◌^◌, ℕ, List, ◌++◌, length, Option, Some, None}
 use Rattle.road_model.specs.declared.rows.ArcRow.{ArcRow}
 use Rattle.road_model.specs.declared.network.Step.{Step}
-use Rattle.road_model.specs.Graph.{Graph, arc_at, IsGraph}
+use Rattle.road_model.specs.Graph.{Graph, arc_at, IsGraph, arc_count}
 use Rattle.road_model.specs.Walk.{IsWalk, walk_length}
 use Rattle.road_model.specs.Dist.{IsDist}
 use Rattle.road_model.specs.Canonical.{IsLast}
@@ -28,7 +28,7 @@ pub record IsLeastTight (g : Graph) (t v a : ℕ) (r : ArcRow) (near : ℕ) : Ty
 
 pub record IsRooted (g : Graph) (t : ℕ) (labels : List (Option ℕ)) : Type 0 where
   pub sound : IsGraph g
-  pub few : length g.arcs < 2 ^ 32
+  pub few : arc_count g < 2 ^ 32
   pub exact : (v k : ℕ) → label_at labels v ≡ Some k → IsDist g v t (Some k)
   pub reach : (u v k : ℕ) (p : List ℕ) → label_at labels u ≡ None → IsWalk g u p t → label_at labels v ≡ Some k → k < walk_length g p
 

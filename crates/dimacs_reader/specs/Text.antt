@@ -6,7 +6,7 @@
 use Rattle.std.specs.Prelude.{ℕ, List, [], ◌∷◌, ◌++◌, length, codes, decimal}
 use Rattle.std.specs.List.{flat_map}
 use Rattle.road_model.specs.declared.rows.ArcRow.{ArcRow}
-use Rattle.road_model.specs.Graph.{Graph}
+use Rattle.road_model.specs.Graph.{Graph, rows_of, arc_count}
 
 abbrev pub problem_text : ℕ → ℕ → List ℕ
 problem_text vertices arcs = codes "p sp " ++ (decimal vertices ++ 32 ∷ (decimal arcs ++ 10 ∷ []))
@@ -15,4 +15,4 @@ abbrev pub row_text : ArcRow → List ℕ
 row_text row = codes "a " ++ (decimal row.tail ++ 32 ∷ (decimal row.head ++ 32 ∷ (decimal row.length ++ 10 ∷ [])))
 
 unfoldable pub graph_text : Graph → List ℕ
-graph_text graph = problem_text graph.vertices (length graph.arcs) ++ flat_map row_text graph.arcs
+graph_text graph = problem_text graph.vertices (arc_count graph) ++ flat_map row_text (rows_of graph)

@@ -12,7 +12,7 @@ use Rattle.rand_xoshiro.specs.SplitMix64.{mix_u64}
 use Rattle.road_model.specs.declared.answer.Plan.{Plan}
 use Rattle.road_model.specs.declared.answer.Plan.TheVariants.{NoPath, Found}
 use Rattle.road_model.specs.declared.answer.Route.{Route}
-use Rattle.road_model.specs.Graph.{Graph}
+use Rattle.road_model.specs.Graph.{Graph, arc_count}
 use Rattle.road_model.specs.Queries.{usual}
 use Rattle.road_model.specs.Answers.{IsAnswer}
 use Rattle.grid_maker.specs.Grid.{grid, grid_ends, state_behind}
@@ -51,7 +51,7 @@ pub record IsSummary (g : Graph) (ds : List (ℕ × ℕ)) (s : Summary) : Type 0
   pub plans : List Plan
   pub answers : AreAnswers g ds plans
   pub is_vertices : s.vertices ≡ g.vertices
-  pub is_arcs : s.arcs ≡ length g.arcs
+  pub is_arcs : s.arcs ≡ arc_count g
   pub is_queries : s.queries ≡ length ds
   pub is_none_count : s.without_path ≡ count_by is_none plans
   pub is_routes : s.routes ≡ sum_by routes_in plans

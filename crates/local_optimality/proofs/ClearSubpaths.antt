@@ -8,9 +8,10 @@ use Rattle.road_model.specs.Fraction.{Fraction}
 use Rattle.road_model.specs.Places.{vertex_at, between, IsDistAt}
 use Rattle.road_model.specs.Tests.{IsTested, FailsLocal, NoneFails, IsLeastFailure}
 use Rattle.road_model.proofs.Dists.{IsDist-same}
-use Rattle.path_tests.specs.JoinedTrail.{IsJoinedTrail, AsksWithin}
+use Rattle.path_tests.specs.JoinedTrail.{IsJoinedTrail}
 use Rattle.path_tests.proofs.Searches.{starts_least}
 use Rattle.local_optimality.specs.Detour.{IsRising, FindsDetour, FindsLeastDetour}
+use Rattle.road_model.specs.ViaWalk.{AsksWithin}
 
 pub IsRising-from_joined : (o : Graph) (t : Trail) (via : ℕ) → IsJoinedTrail o t via → IsRising t
 IsRising-from_joined o t via h = record { same_length = h.same_length; few = h.few; rising = h.rising }

@@ -1,7 +1,8 @@
 ghost use Rattle.std.specs.Prelude.{◌≡◌, ◌<◌, ◌≤◌, ◌+◌, ◌-◌, length, IfOk, OnOk, Ok, None};
 ghost use Rattle.road_model.specs.Places.{between, IsDistAt};
-ghost use Rattle.path_tests.specs.JoinedTrail.{IsJoinedTrail, AsksWithin};
+ghost use Rattle.path_tests.specs.JoinedTrail.{IsJoinedTrail};
 ghost use Rattle.local_optimality.specs.Detour.{IsDetour, FindsDetour, FindsLeastDetour};
+ghost use Rattle.road_model.specs.ViaWalk.{AsksWithin};
 
 use path_tests::{distance_between, length_between};
 use road_model::{NoMemory, Oracle, Pair, Trail};

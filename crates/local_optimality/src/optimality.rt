@@ -1,7 +1,7 @@
 ghost use Rattle.std.specs.Prelude.{◌≡◌, ◌+◌, length, IfOk};
 ghost use Rattle.road_model.specs.Tests.{FailsLocal};
-ghost use Rattle.road_model.specs.ViaWalk.{IsViaWalk, FindsLeast};
-ghost use Rattle.path_tests.specs.JoinedTrail.{IsJoinedTrail, AsksWithin};
+ghost use Rattle.road_model.specs.ViaWalk.{IsViaWalk, FindsLeast, AsksWithin};
+ghost use Rattle.path_tests.specs.JoinedTrail.{IsJoinedTrail};
 
 use crate::detours::least_detour_from;
 use crate::tested::last_tested;

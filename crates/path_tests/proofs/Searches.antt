@@ -4,7 +4,8 @@ use Rattle.std.proofs.lemmas.Bool.{cases_lt}
 use Rattle.road_model.specs.declared.answer.Pair.{Pair}
 use Rattle.road_model.specs.Graph.{Graph}
 use Rattle.road_model.specs.Tests.{IsLeastFailure}
-use Rattle.path_tests.specs.JoinedTrail.{FindsFrom, FindsLeastFrom, AsksWithin}
+use Rattle.path_tests.specs.JoinedTrail.{FindsFrom, FindsLeastFrom}
+use Rattle.road_model.specs.ViaWalk.{AsksWithin}
 
 pub AsksWithin-none : (a : ℕ) → AsksWithin a a 0
 AsksWithin-none a = record { few = omega arith; counted = (λ lt. (omega arith, lt)) }

@@ -4,8 +4,6 @@
 --                            is as long as its own
 --   FindsLeastFrom F i r     None where no pair with the first place i fails; else the failing one with the
 --                            least last place
---   AsksWithin old new n     a count of questions has risen by at most n, and has not fallen if it is within
---                            the count's type
 use Rattle.std.specs.Prelude.{◌≡◌, ◌<◌, ◌≤◌, ◌+◌, ◌^◌, ℕ, length, slice_index, Option, MatchOption}
 use Rattle.road_model.specs.declared.answer.Pair.{Pair}
 use Rattle.road_model.specs.declared.trail.Trail.{Trail}
@@ -31,7 +29,3 @@ pub record FindsFrom (F : ℕ → ℕ → ℕ → Type 0) (i : ℕ) (pair : Pair
 
 abbrev pub FindsLeastFrom : (ℕ → ℕ → ℕ → Type 0) → ℕ → Option Pair → Type 0
 FindsLeastFrom F i result = MatchOption result ((j d : ℕ) → F i j d → ⊥) (FindsFrom F i)
-
-pub record AsksWithin (old new n : ℕ) : Type 0 where
-  pub few : new ≤ old + n
-  pub counted : old < 2 ^ 64 → (old ≤ new) × (new < 2 ^ 64)

@@ -2,7 +2,7 @@ ghost use Rattle.std.specs.Prelude.{◌≡◌, ◌<◌, ◌≤◌, length, slice
 ghost use Rattle.road_model.specs.Graph.{IsVertex};
 ghost use Rattle.road_model.specs.Dist.{NoWalk};
 ghost use Rattle.road_model.specs.Places.{vertex_at, between, IsDistAt};
-ghost use Rattle.path_tests.specs.JoinedTrail.{AsksWithin};
+ghost use Rattle.road_model.specs.ViaWalk.{AsksWithin};
 
 use road_model::{NoMemory, Oracle, Trail};
 

@@ -1,7 +1,7 @@
 ghost use Rattle.std.specs.Prelude.{◌≡◌, ◌<◌, ◌+◌, ◌-◌, ◌*◌, length, IfOk};
 ghost use Rattle.road_model.specs.Tests.{FailsStretch};
-ghost use Rattle.road_model.specs.ViaWalk.{IsViaWalk, FindsLeast};
-ghost use Rattle.path_tests.specs.JoinedTrail.{IsJoinedTrail, FindsLeastFrom, AsksWithin};
+ghost use Rattle.road_model.specs.ViaWalk.{IsViaWalk, FindsLeast, AsksWithin};
+ghost use Rattle.path_tests.specs.JoinedTrail.{IsJoinedTrail, FindsLeastFrom};
 
 use crate::places::{distance_between, length_between};
 use road_model::{NoMemory, Oracle, Pair, Ratio, Trail};

@@ -5,11 +5,11 @@
 use Rattle.std.specs.Prelude.{◌-◌, ℕ, List, [], ◌∷◌, Option, Some, None, slice_set}
 use Rattle.road_model.specs.declared.rows.ArcRow.{ArcRow}
 use Rattle.road_model.specs.declared.change.Change.{Change}
-use Rattle.road_model.specs.Graph.{Graph, arc_at}
+use Rattle.road_model.specs.Graph.{Graph, rows_of, arc_at}
 
 abbrev pub with_row : Graph → ℕ → ℕ → Option ArcRow → Graph
 with_row g a length None = g
-with_row g a length (Some r) = record g { arcs = slice_set g.arcs (a - 1) (record r { length = length }) }
+with_row g a length (Some r) = record g { arcs = slice_set (rows_of g) (a - 1) (record r { length = length }) }
 
 abbrev pub changed : Graph → Change → Graph
 changed g c = with_row g c.arc c.length (arc_at g c.arc)

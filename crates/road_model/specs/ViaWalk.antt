@@ -3,7 +3,8 @@
 --                          on, are shortest walks of one graph that has the vertices and distances of o
 --   FindsLeast F result    None where no pair fails; else the failing pair with the least first, then the
 --                          least last place
---   AsksAtMost old new n   a count of questions has not fallen, and risen by at most n
+--   AsksWithin old new n   a count of questions has risen by at most n, and has not fallen if it is within
+--                          the count's type
 use Rattle.std.specs.Prelude.{◌≡◌, ◌<◌, ◌≤◌, ◌+◌, ◌^◌, ◌++◌, ℕ, List, length, Option, MatchOption}
 use Rattle.road_model.specs.declared.answer.Pair.{Pair}
 use Rattle.road_model.specs.declared.trail.Trail.{Trail}
@@ -33,5 +34,6 @@ pub record IsViaWalk (o : Graph) (t : Trail) (via : ℕ) : Type 0 where
 abbrev pub FindsLeast : (ℕ → ℕ → ℕ → Type 0) → Option Pair → Type 0
 FindsLeast F result = MatchOption result (NoneFails F) (λ pair. IsLeastFailure F pair.first pair.last pair.distance)
 
-abbrev pub AsksAtMost : ℕ → ℕ → ℕ → Type 0
-AsksAtMost old new n = (old ≤ new) × (new ≤ old + n)
+pub record AsksWithin (old new n : ℕ) : Type 0 where
+  pub few : new ≤ old + n
+  pub counted : old < 2 ^ 64 → (old ≤ new) × (new < 2 ^ 64)

@@ -7,7 +7,7 @@
 --   check_text g                    the line that says how large a graph is
 use Rattle.std.specs.Prelude.{◌≡◌, ℕ, List, [], ◌∷◌, ◌++◌, Option, Some, None, Result, Ok, Err, length, codes, decimal}
 use Rattle.road_io.specs.Sink.{WritesFront}
-use Rattle.road_model.specs.Graph.{Graph}
+use Rattle.road_model.specs.Graph.{Graph, arc_count}
 use Rattle.dimacs_reader.specs.declared.fault.GraphFault.{GraphFault}
 use Rattle.dimacs_reader.specs.Gr.{gr_text}
 use Rattle.dimacs_reader.specs.Text.{graph_text}
@@ -53,7 +53,7 @@ GivesOf IsText None out now status = (status ≡ the.ReadFault) × (now ≡ out)
 GivesOf IsText (Some bytes) out now status = GivesGraph IsText (gr_text bytes) out now status
 
 abbrev pub check_text : Graph → List ℕ
-check_text g = codes "graph vertices " ++ decimal g.vertices ++ codes " arcs " ++ decimal (length g.arcs) ++ 10 ∷ []
+check_text g = codes "graph vertices " ++ decimal g.vertices ++ codes " arcs " ++ decimal (arc_count g) ++ 10 ∷ []
 
 abbrev pub IsCheck : Graph → List ℕ → Type 0
 IsCheck g text = text ≡ check_text g

@@ -15,7 +15,7 @@ use Rattle.road_model.specs.declared.answer.Plan.{Plan}
 use Rattle.road_model.specs.declared.request.Reply.{Reply}
 use Rattle.road_model.specs.declared.request.Reply.TheVariants as reply
 use Rattle.road_model.specs.declared.request.Request.{Request}
-use Rattle.road_model.specs.Graph.{Graph}
+use Rattle.road_model.specs.Graph.{Graph, arc_count}
 use Rattle.road_text.specs.Lines.{lines_of, whole_lines}
 use Rattle.line_front.specs.declared.requests.Parsed.{Parsed}
 use Rattle.line_front.specs.declared.requests.Parsed.TheVariants as parsed
@@ -27,7 +27,7 @@ use Rattle.route_server.specs.declared.status.Status.TheVariants.{Done, Usage, G
 use Rattle.route_server.specs.Asking.{asked_in, lines_within, most_input, NoQuit}
 
 abbrev pub limits_of : Graph → Limits
-limits_of g = record { vertices = g.vertices; arcs = length g.arcs; number = 1; kept = false }
+limits_of g = record { vertices = g.vertices; arcs = arc_count g; number = 1; kept = false }
 
 pub record IsRequestReply (g : Graph) (request : Request) (bytes : List ℕ) : Type 0 where
   pub reply : Reply

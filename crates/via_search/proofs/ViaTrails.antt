@@ -10,12 +10,11 @@ use Rattle.road_model.specs.Dist.{HaveSameDist}
 use Rattle.road_model.specs.Fraction.{Fraction}
 use Rattle.road_model.specs.Places.{sums, trail_of, vertex_at}
 use Rattle.road_model.specs.Tests.{FailsLocal, FailsStretch, NoneFails, IsLeastFailure}
-use Rattle.road_model.specs.ViaWalk.{IsViaWalk, FindsLeast}
+use Rattle.road_model.specs.ViaWalk.{IsViaWalk, FindsLeast, AsksWithin}
 use Rattle.road_model.proofs.Parts.{length-sums, sum_after}
 use Rattle.via_search.specs.declared.candidates.Candidate.{Candidate}
 use Rattle.via_search.specs.Candidates.{IsPosed, IsCandidate}
 use Rattle.via_search.specs.Judging.{StaysCounted}
-use Rattle.path_tests.specs.JoinedTrail.{AsksWithin}
 use Rattle.via_search.proofs.ViaPaths.{via_walk, near_of_via}
 use Rattle.via_search.proofs.FewArcs.{default_of, place_unique, shortest_few}
 
