@@ -1,0 +1,3 @@
+pub mod SmallCursors
+pub mod RunLemmas
+pub mod ChainLemmas

@@ -1,6 +1,5 @@
 -- What the tests of a request come to.
---   outcome limits r   the refusal of a request, or else what it asks
---   IsOutcome limits request result   that, and what is asked speaks of vertices and arcs that are there
+--   IsOutcome limits request result   its outcome, and what is asked speaks of vertices and arcs that are there
 --   vertex_in, ratio_in, query_in     a vertex, a ratio of at most a cap, and a query from their numbers, where these are in range
 use Rattle.std.specs.Prelude.{◌≡◌, ℕ, [], ◌∷◌, Option, Some, None, Result, Ok, Err, IfOk, if◌then◌else◌}
 use Rattle.road_model.specs.declared.answer.Query.{Query}
@@ -12,14 +11,7 @@ use Rattle.road_model.specs.Fraction.{Fraction}
 use Rattle.road_model.specs.Queries.{query_of, ratio}
 use Rattle.desk_core.specs.declared.refusals.Limits.{Limits}
 use Rattle.desk_core.specs.declared.refusals.Asked.{Asked}
-use Rattle.desk_core.specs.Refusals.{refusal, asked_in, are_vertices, are_ratios, is_within, is_ratio, IsInRange}
-
-abbrev pub answered : Option ErrorKind → Asked → Result Asked ErrorKind
-answered None asked = Ok asked
-answered (Some kind) asked = Err kind
-
-abbrev pub outcome : Limits → Request → Result Asked ErrorKind
-outcome limits request = answered (refusal limits request) (asked_in limits request)
+use Rattle.desk_core.specs.Refusals.{outcome, are_vertices, are_ratios, is_within, is_ratio, IsInRange}
 
 pub record IsOutcome (limits : Limits) (request : Request) (result : Result Asked ErrorKind) : Type 0 where
   pub is : result ≡ outcome limits request

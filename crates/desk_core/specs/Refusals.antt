@@ -8,13 +8,16 @@
 --   arc       the arc is one of the graph's
 --   length    the length is 1 to 4294967295
 --   full      the version isn't the last that there may be
---   refusal limits r    the refusal of a request
---   asked_in limits r   what the request asks where it isn't refused, by numbers that are in range
-use Rattle.std.specs.Prelude.{ℕ, ◌*◌, ◌==◌, ◌&&◌, not, Bool, false, true, List, [], ◌∷◌, Option, Some, None, nat_lt, nat_le, if◌then◌else◌}
+--   passed tests asked   the refusal of the first test that fails, or else what is asked
+--   route_tests, next_tests   the tests of a request for a page
+--   outcome limits r     the refusal of a request, or else what it asks, by numbers that are in range
+--   IsInRange limits a   what is asked speaks of vertices and arcs that are there
+use Rattle.std.specs.Prelude.{ℕ, ◌*◌, ◌==◌, ◌&&◌, not, Bool, false, true, List, [], ◌∷◌, Option, Some, None, Result, Ok, Err, nat_lt, nat_le, if◌then◌else◌}
 use Rattle.road_model.specs.declared.request.Request.{Request}
 use Rattle.road_model.specs.declared.request.Request.TheVariants as the
 use Rattle.road_model.specs.declared.request.ErrorKind.{ErrorKind}
 use Rattle.road_model.specs.declared.request.ErrorKind.TheVariants as error
+use Rattle.road_model.specs.declared.request.Cursor.{Cursor}
 use Rattle.road_model.specs.declared.request.CursorQuery.{CursorQuery}
 use Rattle.road_model.specs.Graph.{IsVertex}
 use Rattle.road_model.specs.Queries.{query_of}
@@ -40,55 +43,52 @@ is_newer None number = false
 is_newer (Some since) number = nat_lt number since
 
 -- each test says whether it fails, and with which refusal
-abbrev pub first_failing : List (Bool × ErrorKind) → Option ErrorKind
-first_failing [] = None
-first_failing (test ∷ tests) = if test.0 then Some test.1 else first_failing tests
+abbrev pub passed : List (Bool × ErrorKind) → Asked → Result Asked ErrorKind
+passed [] asked = Ok asked
+passed (test ∷ tests) asked = if test.0 then Err test.1 else passed tests asked
 
-abbrev pub refusal : Limits → Request → Option ErrorKind
-refusal limits (the.Best from to) = first_failing (
-    (not (are_vertices limits (from ∷ to ∷ [])), error.Vertex)
-    ∷ [])
-refusal limits (the.Route q size since) = first_failing (
+abbrev pub route_tests : Limits → CursorQuery → ℕ → Option ℕ → List (Bool × ErrorKind)
+route_tests limits q size since =
     (not (are_vertices limits (q.from ∷ q.to ∷ [])), error.Vertex)
     ∷ (not (are_ratios q), error.Ratio)
     ∷ (not (is_within 1 64 size), error.Size)
     ∷ (is_newer since limits.number, error.Behind limits.number)
-    ∷ [])
-refusal limits (the.Next c) = first_failing (
+    ∷ []
+
+abbrev pub next_tests : Limits → Cursor → List (Bool × ErrorKind)
+next_tests limits c =
     (not (are_vertices limits (c.query.from ∷ c.query.to ∷ [])), error.Vertex)
     ∷ (not (are_ratios c.query), error.Ratio)
     ∷ (not (is_within 1 64 c.size), error.Size)
     ∷ (not (c.version == limits.number) && not limits.kept, error.Gone limits.number)
+    ∷ []
+
+abbrev pub outcome : Limits → Request → Result Asked ErrorKind
+outcome limits (the.Best from to) = passed (
+    (not (are_vertices limits (from ∷ to ∷ [])), error.Vertex)
     ∷ [])
-refusal limits the.BadCursor = Some error.Cursor
-refusal limits (the.Why q via since) = first_failing (
+    (asked.Best from to)
+outcome limits (the.Route q size since) = passed (route_tests limits q size since) (asked.Page limits.number (query_of q) size 0)
+outcome limits (the.Next c) = passed (next_tests limits c) (asked.Page c.version (query_of c.query) c.size c.offset)
+outcome limits the.BadCursor = Err error.Cursor
+outcome limits (the.Why q via since) = passed (
     (not (are_vertices limits (q.from ∷ q.to ∷ via ∷ [])), error.Vertex)
     ∷ (not (are_ratios q), error.Ratio)
     ∷ (is_newer since limits.number, error.Behind limits.number)
     ∷ [])
-refusal limits the.Version = None
-refusal limits (the.Length arc length) = first_failing (
+    (asked.Why (query_of q) via)
+outcome limits the.Version = Ok asked.Version
+outcome limits (the.Length arc length) = passed (
     (not (is_within 1 limits.arcs arc), error.ArcRange)
     ∷ (not (is_within 1 4294967295 length), error.LengthRange)
     ∷ [])
-refusal limits the.Publish = first_failing (
+    (asked.Length (record { arc = arc; length = length }))
+outcome limits the.Publish = passed (
     (limits.number == 1048576, error.Full)
     ∷ [])
-refusal limits the.Quit = None
+    asked.Publish
+outcome limits the.Quit = Ok asked.Quit
 
--- a cursor that is refused asks nothing, and stands here for completeness
-abbrev pub asked_in : Limits → Request → Asked
-asked_in limits (the.Best from to) = asked.Best from to
-asked_in limits (the.Route q size since) = asked.Page limits.number (query_of q) size 0
-asked_in limits (the.Next c) = asked.Page c.version (query_of c.query) c.size c.offset
-asked_in limits the.BadCursor = asked.Quit
-asked_in limits (the.Why q via since) = asked.Why (query_of q) via
-asked_in limits the.Version = asked.Version
-asked_in limits (the.Length arc length) = asked.Length (record { arc = arc; length = length })
-asked_in limits the.Publish = asked.Publish
-asked_in limits the.Quit = asked.Quit
-
--- what is asked speaks of vertices and arcs that are there
 pub record AreEnds (limits : Limits) (from to : ℕ) : Type 0 where
   pub source : IsVertex limits.vertices from
   pub target : IsVertex limits.vertices to

@@ -1,13 +1,15 @@
--- What is replied to a request.
+-- What is replied to a request, and what is kept afterwards.
 --   numbers_in q      the numbers of a query, as they were given
---   more_of ..        the cursor of the page behind a page, where items stand behind it
+--   more_of ..        the cursor of the page after a page, where items stand after it
+--   more_in r         the cursor that a reply shows
 --   IsPageReply ..    the reply that shows a page of a plan, or that no path exists
---   IsAnswerTo g number asked reply shown   the reply says what was asked of the graph of this version; shown is the
---                     plan that a page is of
---   may_want          the reply may be that memory was refused: not where only the version is asked for, or where the
+--   IsAnswerTo g state asked reply shown next   the reply says what was asked of the version that it names, shown is the
+--                     plan that a page is of, and the state goes on to the next
+--   may_refuse_memory the reply may be that memory was refused: not where only the version is asked for, or where the
 --                     answer is kept
---   IsReplyTo g limits request reply shown  the refusal of the request; else its answer, or that memory was refused
-use Rattle.std.specs.Prelude.{◌≡◌, ℕ, ◌+◌, ◌⊎◌, not, Bool, true, false, IsTrue, length, Option, Some, None, if◌then◌else◌}
+--   IsStep g state request reply shown next     the reply is the refusal of the request, and the state stays; else it is
+--                     the answer, or that memory was refused and the state stays; g is the graph of version 1
+use Rattle.std.specs.Prelude.{◌≡◌, ℕ, ◌+◌, ◌⊎◌, not, Bool, true, false, IsTrue, length, Option, Some, None, Result, Ok, Err, if◌then◌else◌}
 use Rattle.road_model.specs.declared.answer.Optimum.{Optimum}
 use Rattle.road_model.specs.declared.answer.PageSpan.{PageSpan}
 use Rattle.road_model.specs.declared.answer.Plan.{Plan}
@@ -29,7 +31,8 @@ use Rattle.road_model.specs.Verdicts.{IsVerdictOf}
 use Rattle.desk_core.specs.declared.refusals.Limits.{Limits}
 use Rattle.desk_core.specs.declared.refusals.Asked.{Asked}
 use Rattle.desk_core.specs.declared.refusals.Asked.TheVariants as asked
-use Rattle.desk_core.specs.Refusals.{refusal, asked_in}
+use Rattle.desk_core.specs.Refusals.{outcome}
+use Rattle.desk_core.specs.States.{State, newest, graph_at, used, limits_in, staging, published}
 
 abbrev pub numbers_in : Query → CursorQuery
 numbers_in q = record {
@@ -39,6 +42,11 @@ numbers_in q = record {
   alpha = (q.alpha.num, q.alpha.den);
   epsilon = (q.epsilon.num, q.epsilon.den);
 }
+
+-- whether a reply shows a page, and if items stand after it
+abbrev pub more_in : Reply → Option Cursor
+more_in (reply.Page number span more) = more
+more_in r = None
 
 abbrev pub more_of : ℕ → Query → ℕ → PageSpan → Option Cursor
 more_of number q size span =
@@ -78,33 +86,34 @@ pub record IsWhy (g : Graph) (number : ℕ) (q : Query) (via : ℕ) (r : Reply) 
   pub is_verdict : IsVerdictOf g q via verdict
   pub is : r ≡ why_reply number via verdict
 
-abbrev pub IsAnswerTo : Graph → ℕ → Asked → Reply → Option Plan → Type 0
-IsAnswerTo g number (asked.Best from to) r shown = IsBest g number from to r
-IsAnswerTo g number (asked.Page version q size offset) r shown = IsPaged g version q size offset r shown
-IsAnswerTo g number (asked.Why q via) r shown = IsWhy g number q via r
-IsAnswerTo g number asked.Version r shown = r ≡ reply.Version number
-IsAnswerTo g number (asked.Length change) r shown = ⊥
-IsAnswerTo g number asked.Publish r shown = ⊥
-IsAnswerTo g number asked.Quit r shown = ⊥
+abbrev pub IsAnswerTo : Graph → State → Asked → Reply → Option Plan → State → Type 0
+IsAnswerTo g state (asked.Best from to) r shown next =
+    IsBest (graph_at g state (newest state)) (newest state) from to r × (next ≡ state)
+IsAnswerTo g state (asked.Page version q size offset) r shown next =
+    IsPaged (graph_at g state version) version q size offset r shown
+    × (next ≡ used state (record { version = version; query = numbers_in q }))
+IsAnswerTo g state (asked.Why q via) r shown next =
+    IsWhy (graph_at g state (newest state)) (newest state) q via r × (next ≡ state)
+IsAnswerTo g state asked.Version r shown next = (r ≡ reply.Version (newest state)) × (next ≡ state)
+IsAnswerTo g state (asked.Length change) r shown next =
+    (r ≡ reply.Staged (length state.staged + 1)) × (next ≡ staging state change)
+IsAnswerTo g state asked.Publish r shown next = (r ≡ reply.Published (newest state + 1)) × (next ≡ published state)
+IsAnswerTo g state asked.Quit r shown next = ⊥
 
-abbrev pub may_want : Limits → Request → Bool
-may_want limits (the.Best from to) = true
-may_want limits (the.Route q size since) = not limits.kept
-may_want limits (the.Next c) = not limits.kept
-may_want limits the.BadCursor = true
-may_want limits (the.Why q via since) = true
-may_want limits the.Version = false
-may_want limits (the.Length arc length) = true
-may_want limits the.Publish = true
-may_want limits the.Quit = true
+abbrev pub may_refuse_memory : Limits → Request → Bool
+may_refuse_memory limits the.Version = false
+may_refuse_memory limits (the.Route q size since) = not limits.kept
+may_refuse_memory limits (the.Next c) = not limits.kept
+may_refuse_memory limits r = true
 
-pub record IsWant (limits : Limits) (request : Request) (r : Reply) : Type 0 where
-  pub may : IsTrue (may_want limits request)
+pub record IsMemoryRefused (limits : Limits) (request : Request) (r : Reply) : Type 0 where
+  pub may : IsTrue (may_refuse_memory limits request)
   pub is : r ≡ reply.Error error.Memory
 
-abbrev pub IsAnswered : Graph → Limits → Request → Option ErrorKind → Reply → Option Plan → Type 0
-IsAnswered g limits request (Some kind) r shown = r ≡ reply.Error kind
-IsAnswered g limits request None r shown = IsAnswerTo g limits.number (asked_in limits request) r shown ⊎ IsWant limits request r
+abbrev pub IsAnswered : Graph → State → Request → Result Asked ErrorKind → Reply → Option Plan → State → Type 0
+IsAnswered g state request (Err kind) r shown next = (r ≡ reply.Error kind) × (next ≡ state)
+IsAnswered g state request (Ok asked) r shown next =
+    IsAnswerTo g state asked r shown next ⊎ (IsMemoryRefused (limits_in g state request) request r × (next ≡ state))
 
-abbrev pub IsReplyTo : Graph → Limits → Request → Reply → Option Plan → Type 0
-IsReplyTo g limits request r shown = IsAnswered g limits request (refusal limits request) r shown
+abbrev pub IsStep : Graph → State → Request → Reply → Option Plan → State → Type 0
+IsStep g state request r shown next = IsAnswered g state request (outcome (limits_in g state request) request) r shown next

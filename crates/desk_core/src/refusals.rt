@@ -1,9 +1,8 @@
 //! The tests of a request, in the order in which they are made.
 
-ghost use Rattle.std.specs.Prelude.{◌≡◌, ◌≤◌, ◌↔◌, ℕ, Some, IfOk, IsErrOf};
-ghost use Rattle.road_model.specs.declared.request.ErrorKind.{ErrorKind as Kind};
+ghost use Rattle.std.specs.Prelude.{◌≡◌, ◌≤◌, IfOk};
 ghost use Rattle.road_model.specs.declared.request.Request.TheVariants as the;
-ghost use Rattle.desk_core.specs.Refusals.{refusal, asked_in, is_newer, is_within, AreEnds, IsInRange};
+ghost use Rattle.desk_core.specs.Refusals.{outcome, is_newer, is_within, AreEnds, IsInRange};
 ghost use Rattle.desk_core.specs.Outcomes.{query_in, ratio_in, vertex_in, IsOutcome};
 
 use road_model::{
@@ -205,8 +204,7 @@ fn publish(limits: &Limits) -> Result<Asked, ErrorKind>
 
 /// What a request asks, or its refusal: the first test that fails. Takes no memory.
 pub fn tested(limits: &Limits, request: &Request) -> Result<Asked, ErrorKind>
-    ensures refused { (kind : Kind) → IsErrOf result kind ↔ (refusal limits.now request.now ≡ Some kind) }
-    ensures asked { IfOk result (λ asked. asked ≡ asked_in limits.now request.now) }
+    ensures outcome { result ≡ outcome limits.now request.now }
     ensures ranges { IfOk result (IsInRange limits.now) }
 {
     match request {
