@@ -1,3 +1,4 @@
 pub mod SmallCursors
 pub mod RunLemmas
 pub mod ChainLemmas
+pub mod Passed

@@ -9,7 +9,7 @@
 --   length    the length is 1 to 4294967295
 --   full      the version isn't the last that there may be
 --   passed tests asked   the refusal of the first test that fails, or else what is asked
---   route_tests, next_tests   the tests of a request for a page
+--   best_tests, route_tests, next_tests, why_tests   the tests of these requests
 --   outcome limits r     the refusal of a request, or else what it asks, by numbers that are in range
 --   IsInRange limits a   what is asked speaks of vertices and arcs that are there
 use Rattle.std.specs.Prelude.{ℕ, ◌*◌, ◌==◌, ◌&&◌, not, Bool, false, true, List, [], ◌∷◌, Option, Some, None, Result, Ok, Err, nat_lt, nat_le, if◌then◌else◌}
@@ -47,6 +47,9 @@ abbrev pub passed : List (Bool × ErrorKind) → Asked → Result Asked ErrorKin
 passed [] asked = Ok asked
 passed (test ∷ tests) asked = if test.0 then Err test.1 else passed tests asked
 
+abbrev pub best_tests : Limits → ℕ → ℕ → List (Bool × ErrorKind)
+best_tests limits from to = (not (are_vertices limits (from ∷ to ∷ [])), error.Vertex) ∷ []
+
 abbrev pub route_tests : Limits → CursorQuery → ℕ → Option ℕ → List (Bool × ErrorKind)
 route_tests limits q size since =
     (not (are_vertices limits (q.from ∷ q.to ∷ [])), error.Vertex)
@@ -63,20 +66,19 @@ next_tests limits c =
     ∷ (not (c.version == limits.number) && not limits.kept, error.Gone limits.number)
     ∷ []
 
-abbrev pub outcome : Limits → Request → Result Asked ErrorKind
-outcome limits (the.Best from to) = passed (
-    (not (are_vertices limits (from ∷ to ∷ [])), error.Vertex)
-    ∷ [])
-    (asked.Best from to)
-outcome limits (the.Route q size since) = passed (route_tests limits q size since) (asked.Page limits.number (query_of q) size 0)
-outcome limits (the.Next c) = passed (next_tests limits c) (asked.Page c.version (query_of c.query) c.size c.offset)
-outcome limits the.BadCursor = Err error.Cursor
-outcome limits (the.Why q via since) = passed (
+abbrev pub why_tests : Limits → CursorQuery → ℕ → Option ℕ → List (Bool × ErrorKind)
+why_tests limits q via since =
     (not (are_vertices limits (q.from ∷ q.to ∷ via ∷ [])), error.Vertex)
     ∷ (not (are_ratios q), error.Ratio)
     ∷ (is_newer since limits.number, error.Behind limits.number)
-    ∷ [])
-    (asked.Why (query_of q) via)
+    ∷ []
+
+abbrev pub outcome : Limits → Request → Result Asked ErrorKind
+outcome limits (the.Best from to) = passed (best_tests limits from to) (asked.Best from to)
+outcome limits (the.Route q size since) = passed (route_tests limits q size since) (asked.Page limits.number (query_of q) size 0)
+outcome limits (the.Next c) = passed (next_tests limits c) (asked.Page c.version (query_of c.query) c.size c.offset)
+outcome limits the.BadCursor = Err error.Cursor
+outcome limits (the.Why q via since) = passed (why_tests limits q via since) (asked.Why (query_of q) via)
 outcome limits the.Version = Ok asked.Version
 outcome limits (the.Length arc length) = passed (
     (not (is_within 1 limits.arcs arc), error.ArcRange)

@@ -4,7 +4,7 @@ use Rattle.std.proofs.lemmas.List.{append-nil}
 use Rattle.road_model.specs.Graph.{Graph}
 use Rattle.road_io.specs.Told.{Told, IfTold}
 use Rattle.road_io.proofs.ToldLemmas.{IfTold_then, told_same}
-use Rattle.road_text.specs.Lines.{lines_of, whole_lines, whole_raw_lines}
+use Rattle.road_text.specs.Lines.{whole_lines, whole_raw_lines}
 use Rattle.line_front.specs.declared.requests.Parsed.{Parsed}
 use Rattle.dimacs_reader.specs.declared.fault.GraphFault.{GraphFault}
 use Rattle.dimacs_reader.specs.declared.fault.GraphError.{GraphError}
@@ -12,11 +12,11 @@ use Rattle.dimacs_reader.specs.declared.fault.GraphError.TheVariants as error
 use Rattle.dimacs_reader.specs.Gr.{gr_text}
 use Rattle.route_server.specs.declared.status.Status.{Status}
 use Rattle.route_server.specs.declared.status.Status.TheVariants as the
-use Rattle.route_server.specs.Asking.{NoQuit}
+use Rattle.route_server.specs.Asking.{NoQuit, lines_within}
 use Rattle.route_server.specs.Loading.{Loads, ends_as}
-use Rattle.route_server.specs.Serving.{IsReplies, Stops, Written}
+use Rattle.route_server.specs.Serving.{opening, Stops, Written}
 use Rattle.route_server.specs.Answering.{Idle, AnswersGraph, AnswersFile}
-use Rattle.route_server.proofs.AskingLemmas.{asked_in-nothing}
+use Rattle.route_server.proofs.ServingLemmas.{nothing_written}
 
 no_lines : whole_lines [] ≡ []
 unfolding whole_lines whole_raw_lines
@@ -25,21 +25,19 @@ no_lines = refl
 idle : (text out : List ℕ) → Idle text text out out
 idle text out = record { unread = refl; unwritten = refl }
 
-nothing_written : (g : Graph) (out : List ℕ) → Written g [] out out
-nothing_written g out = record { bytes = []; replies = subst (λ (x : List Parsed). IsReplies g x []) (sym asked_in-nothing) refl; is = sym (append-nil out) }
-
 -- a read fault behind which nothing of the input was read
 fault_unread : (r : Result Graph GraphFault) (text out : List ℕ) → AnswersGraph r text text out out the.ReadFault
 fault_unread (Ok g) text out = record {
+  last = opening;
   taken = [];
   is = refl;
-  written = subst (λ (ls : List (List ℕ)). Written g ls out out) (sym no_lines) (nothing_written g out);
+  written = subst (λ (ls : List (List ℕ)). Written g ls out out opening) (sym no_lines) (nothing_written g out);
   unquit = subst NoQuit (sym no_lines) tt;
 }
 fault_unread (Err fault) text out = (tt, idle text out)
 
 starved_unread : (r : Result Graph GraphFault) (text out : List ℕ) → AnswersGraph r text text out out the.NoMemory
-starved_unread (Ok g) text out = record { some = []; others = lines_of text; parts = refl; written = nothing_written g out }
+starved_unread (Ok g) text out = record { last = opening; some = []; others = lines_within text; parts = refl; written = nothing_written g out }
 starved_unread (Err fault) text out = (tt, idle text out)
 
 refused_unread : (r : Result Graph GraphFault) (fault : GraphFault) (text out : List ℕ) → r ≡ Err fault → AnswersGraph r text text out out (the.GraphRefused fault)

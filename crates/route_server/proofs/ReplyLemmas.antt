@@ -11,15 +11,18 @@ use Rattle.road_model.specs.declared.request.Reply.TheVariants as reply
 use Rattle.road_model.specs.declared.request.Request.{Request}
 use Rattle.road_model.specs.declared.request.Request.TheVariants as the
 use Rattle.road_model.specs.Answers.{IsPage}
+use Rattle.road_model.specs.Queries.{query_of}
 use Rattle.road_model.specs.Graph.{Graph}
 use Rattle.desk_core.specs.declared.refusals.Asked.{Asked}
 use Rattle.desk_core.specs.declared.refusals.Asked.TheVariants as asked
 use Rattle.desk_core.specs.declared.refusals.Limits.{Limits}
-use Rattle.desk_core.specs.Refusals.{refusal, asked_in}
-use Rattle.desk_core.specs.Replies.{IsAnswered, IsAnswerTo, IsPageReply, IsReplyTo, may_want}
+use Rattle.desk_core.specs.Refusals.{outcome, best_tests, route_tests, next_tests, why_tests}
+use Rattle.desk_core.specs.States.{limits_in}
+use Rattle.desk_core.specs.Replies.{IsAnswered, IsAnswerTo, IsPageReply, IsStep, may_refuse_memory}
+use Rattle.desk_core.proofs.Passed.{passed_ok}
 use Rattle.line_front.specs.Replies.{HasItems}
 use Rattle.route_server.specs.Desks.{IsDesk, IsDeskRequest}
-use Rattle.route_server.specs.Serving.{limits_of}
+use Rattle.route_server.specs.Serving.{limits_of, opening}
 
 -- a page shows no item that isn't there
 span_inside : (total size offset : ℕ) (span : PageSpan) → IsPage total size offset span → span.first + span.count ≤ total
@@ -33,62 +36,63 @@ page_items number q size offset NoPath r h = subst (λ (x : Reply). HasItems x (
 page_items number q size offset (Found optimum others) r h =
     subst (λ (x : Reply). HasItems x (Some (Found optimum others))) (sym h.is) (span_inside (1 + length others) size offset h.span h.page)
 
--- a request that a desk answers asks for what a desk answers
-desk_with : (limits : Limits) (r : Request) (refused : Option ErrorKind) → refused ≡ refusal limits r → refused ≡ None → IsDeskRequest r → IsDesk (asked_in limits r)
-desk_with limits (the.Best from to) refused e n d = tt
-desk_with limits (the.Route q size since) refused e n d = tt
-desk_with limits (the.Next c) refused e n d = tt
-desk_with limits the.BadCursor refused e n d = absurd (let f : Some error.Cursor ≡ None = sym e ∙ n in cc)
-desk_with limits (the.Why q via since) refused e n d = tt
-desk_with limits the.Version refused e n d = tt
-desk_with limits (the.Length arc length) refused e n d = absurd d
-desk_with limits the.Publish refused e n d = absurd d
-desk_with limits the.Quit refused e n d = absurd d
+-- no answer is kept, so each request is tested against the same
+limits_today : (g : Graph) (r : Request) → limits_in g opening r ≡ limits_of g
+limits_today g (the.Best from to) = refl
+limits_today g (the.Route q size since) = refl
+limits_today g (the.Next c) = refl
+limits_today g the.BadCursor = refl
+limits_today g (the.Why q via since) = refl
+limits_today g the.Version = refl
+limits_today g (the.Length arc length) = refl
+limits_today g the.Publish = refl
+limits_today g the.Quit = refl
 
-pub desk_asks : (limits : Limits) (r : Request) → refusal limits r ≡ None → IsDeskRequest r → IsDesk (asked_in limits r)
-desk_asks limits r n d = desk_with limits r (refusal limits r) refl n d
+outcome_today : (g : Graph) (l : Limits) (r : Request) (t o : Result Asked ErrorKind) → l ≡ limits_of g → t ≡ outcome l r → t ≡ o → outcome (limits_in g opening r) r ≡ o
+outcome_today g l r t o e is ok = ap (λ (x : Limits). outcome x r) (limits_today g r ∙ sym e) ∙ sym is ∙ ok
+
+-- a request that a desk answers asks for what a desk answers
+pub desk_of : (l : Limits) (r : Request) (t : Result Asked ErrorKind) (a : Asked) → t ≡ outcome l r → t ≡ Ok a → IsDeskRequest r → IsDesk a
+desk_of l (the.Best from to) t a is ok d = subst IsDesk (passed_ok (best_tests l from to) (asked.Best from to) a (sym is ∙ ok)) tt
+desk_of l (the.Route q size since) t a is ok d = subst IsDesk (passed_ok (route_tests l q size since) (asked.Page l.number (query_of q) size 0) a (sym is ∙ ok)) tt
+desk_of l (the.Next c) t a is ok d = subst IsDesk (passed_ok (next_tests l c) (asked.Page c.version (query_of c.query) c.size c.offset) a (sym is ∙ ok)) tt
+desk_of l the.BadCursor t a is ok d = absurd (let f : ◌≡◌ {A = Result Asked ErrorKind} (Err error.Cursor) (Ok a) = sym is ∙ ok in cc)
+desk_of l (the.Why q via since) t a is ok d = subst IsDesk (passed_ok (why_tests l q via since) (asked.Why (query_of q) via) a (sym is ∙ ok)) tt
+desk_of l the.Version t a is ok d =
+    let f : ◌≡◌ {A = Result Asked ErrorKind} (Ok asked.Version) (Ok a) = sym is ∙ ok in
+    subst IsDesk (let e : asked.Version ≡ a = cc in e) tt
+desk_of l (the.Length arc length) t a is ok d = absurd d
+desk_of l the.Publish t a is ok d = absurd d
+desk_of l the.Quit t a is ok d = absurd d
 
 -- only who asks for no more than the version can't be told that memory was refused
-pub want_may : (limits : Limits) (r : Request) → limits.kept ≡ false → (asked_in limits r ≡ asked.Version → ⊥) → IsTrue (may_want limits r)
-want_may limits (the.Best from to) k n = refl
-want_may limits (the.Route q size since) k n = ap not k
-want_may limits (the.Next c) k n = ap not k
-want_may limits the.BadCursor k n = refl
-want_may limits (the.Why q via since) k n = refl
-want_may limits the.Version k n = absurd (n refl)
-want_may limits (the.Length arc length) k n = refl
-want_may limits the.Publish k n = refl
-want_may limits the.Quit k n = refl
+may_refuse : (g : Graph) (l : Limits) (r : Request) (t : Result Asked ErrorKind) (a : Asked) → t ≡ outcome l r → t ≡ Ok a → (a ≡ asked.Version → ⊥) → IsTrue (may_refuse_memory (limits_in g opening r) r)
+may_refuse g l (the.Best from to) t a is ok n = refl
+may_refuse g l (the.Route q size since) t a is ok n = refl
+may_refuse g l (the.Next c) t a is ok n = refl
+may_refuse g l the.BadCursor t a is ok n = refl
+may_refuse g l (the.Why q via since) t a is ok n = refl
+may_refuse g l the.Version t a is ok n =
+    absurd (n (let f : ◌≡◌ {A = Result Asked ErrorKind} (Ok asked.Version) (Ok a) = sym is ∙ ok in let e : a ≡ asked.Version = cc in e))
+may_refuse g l (the.Length arc length) t a is ok n = refl
+may_refuse g l the.Publish t a is ok n = refl
+may_refuse g l the.Quit t a is ok n = refl
 
--- a request that was tested and accepted
-accepted : (t : Result Asked ErrorKind) (a : Asked) (o : Option ErrorKind) → t ≡ Ok a → ((k : ErrorKind) → (t ≡ Err k) ↔ (o ≡ Some k)) → o ≡ None
-accepted t a None is h = refl
-accepted t a (Some k) is h = absurd (let f : t ≡ Err k = (h k).1 refl in let e : Ok a ≡ t = sym is in cc)
-
-pub desk_of : (l : Limits) (r : Request) (t : Result Asked ErrorKind) (a : Asked) → t ≡ Ok a → ((k : ErrorKind) → (t ≡ Err k) ↔ (refusal l r ≡ Some k)) → a ≡ asked_in l r → IsDeskRequest r → IsDesk a
-desk_of l r t a is h e d = subst IsDesk (sym e) (desk_asks l r (accepted t a (refusal l r) is h) d)
-
-at_limits : (g : Graph) (l : Limits) (r : Request) (a : Reply) (shown : Option Plan) → l ≡ limits_of g → IsReplyTo g l r a shown → IsReplyTo g (limits_of g) r a shown
-at_limits g l r a shown e h = subst (λ (x : Limits). IsReplyTo g x r a shown) e h
-
-answered_with : (g : Graph) (l : Limits) (r : Request) (refused : Option ErrorKind) (a : Reply) (shown : Option Plan) → refused ≡ None → IsAnswerTo g l.number (asked_in l r) a shown → IsAnswered g l r refused a shown
-answered_with g l r refused a shown n h = subst (λ x. IsAnswered g l r x a shown) (sym n) (inl h)
+abbrev StepBy : Graph → Request → Reply → Option Plan → Result Asked ErrorKind → Type 0
+StepBy g r answer shown o = IsAnswered g opening r o answer shown opening
 
 -- the answer to what it asks
-pub answer_of : (g : Graph) (l : Limits) (r : Request) (t : Result Asked ErrorKind) (a : Asked) (answer : Reply) (shown : Option Plan) → l ≡ limits_of g → t ≡ Ok a → ((k : ErrorKind) → (t ≡ Err k) ↔ (refusal l r ≡ Some k)) → a ≡ asked_in l r → IsAnswerTo g 1 a answer shown → IsReplyTo g (limits_of g) r answer shown
-answer_of g l r t a answer shown e ok h is said =
-    let number : l.number ≡ 1 = ap (λ (x : Limits). x.number) e in
-    at_limits g l r answer shown e (answered_with g l r (refusal l r) answer shown (accepted t a (refusal l r) ok h)
-    (subst (λ (n : ℕ). IsAnswerTo g n (asked_in l r) answer shown) (sym number) (subst (λ (x : Asked). IsAnswerTo g 1 x answer shown) is said)))
+pub answered_step : (g : Graph) (l : Limits) (r : Request) (t : Result Asked ErrorKind) (a : Asked) (answer : Reply) (shown : Option Plan) → l ≡ limits_of g → t ≡ outcome l r → t ≡ Ok a → IsAnswerTo g opening a answer shown opening → IsStep g opening r answer shown opening
+answered_step g l r t a answer shown e is ok said =
+    subst (StepBy g r answer shown) (sym (outcome_today g l r t (Ok a) e is ok)) (inl said)
 
 -- its refusal
-pub refusal_of : (g : Graph) (l : Limits) (r : Request) (t : Result Asked ErrorKind) (kind : ErrorKind) (answer : Reply) (shown : Option Plan) → l ≡ limits_of g → t ≡ Err kind → ((k : ErrorKind) → (t ≡ Err k) ↔ (refusal l r ≡ Some k)) → answer ≡ reply.Error kind → IsReplyTo g (limits_of g) r answer shown
-refusal_of g l r t kind answer shown e err h is =
-    at_limits g l r answer shown e (subst (λ x. IsAnswered g l r x answer shown) (sym ((h kind).0 err)) is)
+pub refused_step : (g : Graph) (l : Limits) (r : Request) (t : Result Asked ErrorKind) (kind : ErrorKind) (answer : Reply) (shown : Option Plan) → l ≡ limits_of g → t ≡ outcome l r → t ≡ Err kind → answer ≡ reply.Error kind → IsStep g opening r answer shown opening
+refused_step g l r t kind answer shown e is err said =
+    subst (StepBy g r answer shown) (sym (outcome_today g l r t (Err kind) e is err)) (said, refl)
 
 -- that memory was refused
-pub want_of : (g : Graph) (l : Limits) (r : Request) (t : Result Asked ErrorKind) (a : Asked) (answer : Reply) (shown : Option Plan) → l ≡ limits_of g → t ≡ Ok a → ((k : ErrorKind) → (t ≡ Err k) ↔ (refusal l r ≡ Some k)) → a ≡ asked_in l r → (a ≡ asked.Version → false ≡ true) → answer ≡ reply.Error error.Memory → IsReplyTo g (limits_of g) r answer shown
-want_of g l r t a answer shown e ok h is v said =
-    let kept : l.kept ≡ false = ap (λ (x : Limits). x.kept) e in
-    at_limits g l r answer shown e (subst (λ x. IsAnswered g l r x answer shown) (sym (accepted t a (refusal l r) ok h))
-    (inr (record { may = want_may l r kept (λ (f : asked_in l r ≡ asked.Version). let wrong : false ≡ true = v (is ∙ f) in cc); is = said })))
+pub starved_step : (g : Graph) (l : Limits) (r : Request) (t : Result Asked ErrorKind) (a : Asked) (answer : Reply) (shown : Option Plan) → l ≡ limits_of g → t ≡ outcome l r → t ≡ Ok a → (a ≡ asked.Version → false ≡ true) → answer ≡ reply.Error error.Memory → IsStep g opening r answer shown opening
+starved_step g l r t a answer shown e is ok v said =
+    subst (StepBy g r answer shown) (sym (outcome_today g l r t (Ok a) e is ok))
+    (inr (record { may = may_refuse g l r t a is ok (λ (f : a ≡ asked.Version). let wrong : false ≡ true = v f in cc); is = said }, refl))

@@ -4,6 +4,7 @@ use Rattle.std.proofs.lemmas.List.{append-nil}
 use Rattle.road_io.specs.Told.{Told, IfTold}
 use Rattle.road_io.proofs.ToldLemmas.{IfTold_then, told_same}
 use Rattle.road_model.specs.Graph.{Graph}
+use Rattle.desk_core.specs.States.{State}
 use Rattle.line_front.specs.declared.requests.Parsed.{Parsed}
 use Rattle.line_front.specs.declared.requests.Parsed.TheVariants as parsed
 use Rattle.line_front.specs.Replies.{HasItems, reply_text}
@@ -15,27 +16,27 @@ use Rattle.route_server.specs.Serving.{IsReply}
 use Rattle.route_server.specs.Served.{Serves, Sends}
 
 -- a line that says nothing
-pub serves_nothing : (g : Graph) (asked : Parsed) (a : Option Told) → asked ≡ parsed.Empty → IfTold a a (λ out now. Serves g asked out now served.Written)
-serves_nothing g asked a e =
+pub serves_nothing : (g : Graph) (state next : State) (asked : Parsed) (a : Option Told) → (asked ≡ parsed.Empty) × (next ≡ state) → IfTold a a (λ out now. Serves g state asked out now next served.Written)
+serves_nothing g state next asked a e =
     told_same a _ (λ (out : List ℕ). record {
-      unquit = ap is_quit e;
+      unquit = ap is_quit e.0;
       bytes = [];
-      reply = subst (λ (x : Parsed). IsReply g x []) (sym e) refl;
+      reply = subst (λ (x : Parsed). IsReply g state x [] next) (sym e.0) (refl, e.1);
       is = sym (append-nil out);
     })
 
 -- a line that ends the run
-pub serves_quit : (g : Graph) (asked : Parsed) (a : Option Told) → is_quit asked ≡ true → IfTold a a (λ out now. Serves g asked out now served.Quit)
-serves_quit g asked a e = told_same a _ (λ (out : List ℕ). record { quit = e; is = refl })
+pub serves_quit : (g : Graph) (state next : State) (asked : Parsed) (a : Option Told) → is_quit asked ≡ true → IfTold a a (λ out now. Serves g state asked out now next served.Quit)
+serves_quit g state next asked a e = told_same a _ (λ (out : List ℕ). record { quit = e; is = refl })
 
-sent : (g : Graph) (asked : Parsed) (answer : Answer) (out now : List ℕ) (how : Served) → is_quit asked ≡ false → IsReply g asked (reply_text answer.reply answer.shown) → Sends answer out now how → Serves g asked out now how
-sent g asked answer out now served.Written q r s = record { unquit = q; bytes = reply_text answer.reply answer.shown; reply = r; is = s }
-sent g asked answer out now served.Quit q r s = absurd s
-sent g asked answer out now served.WriteFault q r s =
-    record { unquit = q; bytes = reply_text answer.reply answer.shown; reply = r; front = s.front; behind = s.behind; parts = s.parts; is = s.written }
-sent g asked answer out now served.NoMemory q r s = s
+sent : (g : Graph) (state next : State) (asked : Parsed) (answer : Answer) (out now : List ℕ) (how : Served) → is_quit asked ≡ false → IsReply g state asked (reply_text answer.reply answer.shown) next → Sends answer out now how → Serves g state asked out now next how
+sent g state next asked answer out now served.Written q r s = record { unquit = q; bytes = reply_text answer.reply answer.shown; reply = r; is = s }
+sent g state next asked answer out now served.Quit q r s = absurd s
+sent g state next asked answer out now served.WriteFault q r s =
+    record { next = next; unquit = q; bytes = reply_text answer.reply answer.shown; reply = r; front = s.front; behind = s.behind; parts = s.parts; is = s.written }
+sent g state next asked answer out now served.NoMemory q r s = s
 
 -- a line that has a reply
-pub serves_sent : (g : Graph) (asked : Parsed) (answer : Answer) (a b : Option Told) (how : Served) → (is_quit asked ≡ false) × IsReply g asked (reply_text answer.reply answer.shown) × HasItems answer.reply answer.shown → IfTold a b (λ out now. Sends answer out now how) → IfTold a b (λ out now. Serves g asked out now how)
-serves_sent g asked answer a b how said h =
-    IfTold_then a b _ _ (λ (out now : List ℕ) (s : Sends answer out now how). sent g asked answer out now how said.0 said.1 s) h
+pub serves_sent : (g : Graph) (state next : State) (asked : Parsed) (answer : Answer) (a b : Option Told) (how : Served) → (is_quit asked ≡ false) × IsReply g state asked (reply_text answer.reply answer.shown) next × HasItems answer.reply answer.shown → IfTold a b (λ out now. Sends answer out now how) → IfTold a b (λ out now. Serves g state asked out now next how)
+serves_sent g state next asked answer a b how said h =
+    IfTold_then a b _ _ (λ (out now : List ℕ) (s : Sends answer out now how). sent g state next asked answer out now how said.0 said.1 s) h

@@ -24,15 +24,8 @@ abbrev pub asked_by : List ℕ → Parsed
 asked_by line = parsed_of role.Reader line
 
 abbrev pub is_quit_request : Request → Bool
-is_quit_request (request.Best from to) = false
-is_quit_request (request.Route query size since) = false
-is_quit_request (request.Next cursor) = false
-is_quit_request request.BadCursor = false
-is_quit_request (request.Why query via since) = false
-is_quit_request request.Version = false
-is_quit_request (request.Length arc length) = false
-is_quit_request request.Publish = false
 is_quit_request request.Quit = true
+is_quit_request r = false
 
 abbrev pub is_quit : Parsed → Bool
 is_quit parsed.Empty = false

@@ -2,12 +2,13 @@
 --   IsDesk asked            it asks about routes, or for the version
 --   IsDeskRequest request   the same of a request
 --   IsReaders request       it isn't a change
---   IsSaid g asked said     what is said to a line
+--   IsSaid g state asked said next   what is said to a line, and the state after it
 use Rattle.std.specs.Prelude.{◌≡◌, true, false}
 use Rattle.road_model.specs.declared.request.Request.{Request}
 use Rattle.road_model.specs.declared.request.Request.TheVariants as the
 use Rattle.desk_core.specs.declared.refusals.Asked.{Asked}
 use Rattle.desk_core.specs.declared.refusals.Asked.TheVariants as asked
+use Rattle.desk_core.specs.States.{State}
 use Rattle.road_model.specs.Graph.{Graph}
 use Rattle.line_front.specs.declared.requests.Parsed.{Parsed}
 use Rattle.line_front.specs.declared.requests.Parsed.TheVariants as parsed
@@ -20,36 +21,22 @@ use Rattle.route_server.specs.Asking.{is_quit}
 use Rattle.route_server.specs.Serving.{IsReply}
 
 abbrev pub IsDesk : Asked → Type 0
-IsDesk (asked.Best from to) = Unit {0}
-IsDesk (asked.Page number q size offset) = Unit {0}
-IsDesk (asked.Why q via) = Unit {0}
-IsDesk asked.Version = Unit {0}
 IsDesk (asked.Length change) = ⊥
 IsDesk asked.Publish = ⊥
 IsDesk asked.Quit = ⊥
+IsDesk a = Unit {0}
 
 abbrev pub IsDeskRequest : Request → Type 0
-IsDeskRequest (the.Best from to) = Unit {0}
-IsDeskRequest (the.Route q size since) = Unit {0}
-IsDeskRequest (the.Next c) = Unit {0}
-IsDeskRequest the.BadCursor = Unit {0}
-IsDeskRequest (the.Why q via since) = Unit {0}
-IsDeskRequest the.Version = Unit {0}
 IsDeskRequest (the.Length arc length) = ⊥
 IsDeskRequest the.Publish = ⊥
 IsDeskRequest the.Quit = ⊥
+IsDeskRequest r = Unit {0}
 
 -- a line that doesn't ask for changes, as no line of one who only reads does
 abbrev pub IsReaders : Request → Type 0
-IsReaders (the.Best from to) = Unit {0}
-IsReaders (the.Route q size since) = Unit {0}
-IsReaders (the.Next c) = Unit {0}
-IsReaders the.BadCursor = Unit {0}
-IsReaders (the.Why q via since) = Unit {0}
-IsReaders the.Version = Unit {0}
 IsReaders (the.Length arc length) = ⊥
 IsReaders the.Publish = ⊥
-IsReaders the.Quit = Unit {0}
+IsReaders r = Unit {0}
 
 abbrev pub IsReadersLine : Parsed → Type 0
 IsReadersLine parsed.Empty = Unit {0}
@@ -64,7 +51,8 @@ IsReadersNext next.Over = Unit {0}
 IsReadersNext next.Failed = Unit {0}
 
 -- what is said to a line
-abbrev pub IsSaid : Graph → Parsed → Said → Type 0
-IsSaid g asked said.Nothing = asked ≡ parsed.Empty
-IsSaid g asked said.Quit = is_quit asked ≡ true
-IsSaid g asked (said.Answered a) = (is_quit asked ≡ false) × IsReply g asked (reply_text a.reply a.shown) × HasItems a.reply a.shown
+abbrev pub IsSaid : Graph → State → Parsed → Said → State → Type 0
+IsSaid g state asked said.Nothing next = (asked ≡ parsed.Empty) × (next ≡ state)
+IsSaid g state asked said.Quit next = is_quit asked ≡ true
+IsSaid g state asked (said.Answered a) next =
+    (is_quit asked ≡ false) × IsReply g state asked (reply_text a.reply a.shown) next × HasItems a.reply a.shown

@@ -1,10 +1,12 @@
--- How the reply to one line ends, where out stood written before and now stands afterwards.
---   Written      the reply stands behind it
+-- How the reply to one line ends, where out stood written before and now stands afterwards, and the state goes on to
+-- the next.
+--   Written      the reply stands after it
 --   Quit         the line ends the run, and nothing was written
---   WriteFault   a front of the reply stands behind it
+--   WriteFault   a front of the reply stands after it
 --   NoMemory     nothing was written
 use Rattle.std.specs.Prelude.{◌≡◌, ℕ, true, false, List, ◌++◌}
 use Rattle.road_model.specs.Graph.{Graph}
+use Rattle.desk_core.specs.States.{State}
 use Rattle.line_front.specs.declared.requests.Parsed.{Parsed}
 use Rattle.route_server.specs.declared.serve.Served.{Served}
 use Rattle.route_server.specs.declared.serve.Served.TheVariants as the
@@ -14,16 +16,17 @@ use Rattle.route_server.specs.declared.answering.Answer.{Answer}
 use Rattle.route_server.specs.Asking.{is_quit}
 use Rattle.route_server.specs.Serving.{IsReply}
 
-pub record IsServed (g : Graph) (asked : Parsed) (out now : List ℕ) : Type 0 where
+pub record IsServed (g : Graph) (state : State) (asked : Parsed) (out now : List ℕ) (next : State) : Type 0 where
   pub unquit : is_quit asked ≡ false
   pub bytes : List ℕ
-  pub reply : IsReply g asked bytes
+  pub reply : IsReply g state asked bytes next
   pub is : now ≡ out ++ bytes
 
-pub record IsServedFront (g : Graph) (asked : Parsed) (out now : List ℕ) : Type 0 where
+pub record IsServedFront (g : Graph) (state : State) (asked : Parsed) (out now : List ℕ) : Type 0 where
+  pub next : State
   pub unquit : is_quit asked ≡ false
   pub bytes : List ℕ
-  pub reply : IsReply g asked bytes
+  pub reply : IsReply g state asked bytes next
   pub front : List ℕ
   pub behind : List ℕ
   pub parts : bytes ≡ front ++ behind
@@ -33,11 +36,11 @@ pub record IsQuit (asked : Parsed) (out now : List ℕ) : Type 0 where
   pub quit : is_quit asked ≡ true
   pub is : now ≡ out
 
-abbrev pub Serves : Graph → Parsed → List ℕ → List ℕ → Served → Type 0
-Serves g asked out now the.Written = IsServed g asked out now
-Serves g asked out now the.Quit = IsQuit asked out now
-Serves g asked out now the.WriteFault = IsServedFront g asked out now
-Serves g asked out now the.NoMemory = now ≡ out
+abbrev pub Serves : Graph → State → Parsed → List ℕ → List ℕ → State → Served → Type 0
+Serves g state asked out now next the.Written = IsServed g state asked out now next
+Serves g state asked out now next the.Quit = IsQuit asked out now
+Serves g state asked out now next the.WriteFault = IsServedFront g state asked out now
+Serves g state asked out now next the.NoMemory = now ≡ out
 
 -- how the write of a reply ends
 abbrev pub Sends : Answer → List ℕ → List ℕ → Served → Type 0

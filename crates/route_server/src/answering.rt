@@ -4,10 +4,10 @@ ghost use Rattle.std.specs.Prelude.{◌≡◌, None, IfOk, IsOk};
 ghost use Rattle.road_model.specs.declared.request.Reply.TheVariants as reply;
 ghost use Rattle.road_model.specs.Dist.{HaveSameDist};
 ghost use Rattle.desk_core.specs.Refusals.{IsInRange};
-ghost use Rattle.desk_core.specs.Replies.{IsAnswerTo, IsReplyTo, best_reply, why_reply};
+ghost use Rattle.desk_core.specs.Replies.{IsAnswerTo, IsStep, best_reply, why_reply};
 ghost use Rattle.desk_core.specs.declared.refusals.Asked.TheVariants as question;
 ghost use Rattle.line_front.specs.Replies.{HasItems};
-ghost use Rattle.route_server.specs.Serving.{limits_of};
+ghost use Rattle.route_server.specs.Serving.{limits_of, opening};
 ghost use Rattle.route_server.specs.Desks.{IsDesk, IsDeskRequest, IsReadersLine, IsSaid};
 
 use canonical_trees::optimum;
@@ -96,7 +96,7 @@ fn answered<O: Oracle>(
     requires range { IsInRange (limits_of star.now) asked.now }
     requires desk { IsDesk asked.now }
     requires same { HaveSameDist star.now (O.graph oracle.old) }
-    ensures answer { IfOk result (λ a. IsAnswerTo star.now 1 asked.now a.reply a.shown) }
+    ensures answer { IfOk result (λ a. IsAnswerTo star.now opening asked.now a.reply a.shown opening) }
     ensures items { IfOk result (λ a. HasItems a.reply a.shown) }
     ensures version { asked.now ≡ question.Version → IsOk result }
     ensures same { O.graph oracle.new ≡ O.graph oracle.old }
@@ -136,7 +136,7 @@ fn answered<O: Oracle>(
 pub fn reply_to<O: Oracle>(alloc: Global, star: &Star, oracle: &mut O, request: &Request) -> Answer
     requires desk { IsDeskRequest request.now }
     requires same { HaveSameDist star.now (O.graph oracle.old) }
-    ensures reply { IsReplyTo star.now (limits_of star.now) request.now result.reply result.shown }
+    ensures reply { IsStep star.now opening request.now result.reply result.shown opening }
     ensures items { HasItems result.reply result.shown }
     ensures same { O.graph oracle.new ≡ O.graph oracle.old }
 {
@@ -153,7 +153,7 @@ pub fn reply_to<O: Oracle>(alloc: Global, star: &Star, oracle: &mut O, request: 
 pub fn say<O: Oracle>(alloc: Global, star: &Star, oracle: &mut O, asked: &Parsed) -> Said
     requires reader { IsReadersLine asked.now }
     requires same { HaveSameDist star.now (O.graph oracle.old) }
-    ensures said { IsSaid star.now asked.now result }
+    ensures said { IsSaid star.now opening asked.now result opening }
     ensures same { O.graph oracle.new ≡ O.graph oracle.old }
 {
     match asked {

@@ -6,7 +6,7 @@ ghost use Rattle.road_io.specs.Count.{HasRisen};
 ghost use Rattle.road_model.specs.Dist.{HaveSameDist};
 ghost use Rattle.line_front.specs.Replies.{HasItems};
 ghost use Rattle.route_server.specs.Desks.{IsReadersLine};
-ghost use Rattle.route_server.specs.Serving.{Stops};
+ghost use Rattle.route_server.specs.Serving.{Stops, opening};
 ghost use Rattle.route_server.specs.Served.{Serves, Sends};
 
 use crate::answering::{Answer, Said, say};
@@ -64,7 +64,7 @@ fn serve_one<O: Oracle, K: Sink>(
     requires reader { IsReadersLine asked.now }
     requires same { HaveSameDist star.now (O.graph oracle.old) }
     ensures serves { IfTold (K.written output.old) (K.written output.new)
-        (λ out now. Serves star.now asked.now out now result) }
+        (λ out now. Serves star.now opening asked.now out now opening result) }
     ensures same { O.graph oracle.new ≡ O.graph oracle.old }
     ensures count { K.faults output.old ≤ K.faults output.new }
     ensures cause { result ≡ Served.WriteFault → HasRisen (K.faults output.old) (K.faults output.new) }
