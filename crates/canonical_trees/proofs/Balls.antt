@@ -1,14 +1,13 @@
 -- What the labels and members of a ball say of distances within its radius, in both directions.
-use Rattle.std.proofs.Common.{◌≡◌, ℕ, ◌<◌, ◌≤◌, ◌^◌, List, length, Option, Some, None, IsSome, reverse, refl, sym, ap, ◌∙◌, subst, arith, ⊎_elim}
+use Rattle.std.proofs.Common.{◌≡◌, ℕ, ◌<◌, ◌≤◌, ◌^◌, List, length, Option, Some, None, IsSome, reverse, refl, sym, subst, arith, ⊎_elim}
 use Rattle.std.proofs.lemmas.Bool.{cases_lt, false≢true}
 use Rattle.std.proofs.lemmas.List.{length-map}
 use Rattle.road_model.specs.Graph.{Graph, IsGraph, IsVertex, turned, reversed}
 use Rattle.road_model.specs.File.{IsWithinLimits}
 use Rattle.road_model.specs.Walk.{walk_length}
 use Rattle.road_model.specs.Dist.{IsDist, DistsBelow}
-use Rattle.road_model.proofs.Dists.{IsDist-same}
 use Rattle.road_model.proofs.Walks.{IsWalk-inside}
-use Rattle.tree_search.specs.Ball.{label_at, IsWithin, IsBeyond, IsLabelled, Reached, IsBall, IsLabelledTo}
+use Rattle.tree_search.specs.Ball.{label_at, IsWithin, IsBeyond, IsLabelled, Reached, IsBall}
 use Rattle.canonical_trees.specs.Tight.{IsRooted}
 use Rattle.canonical_trees.specs.Trees.{IsInside, IsOutside, IsLabel, IsMembers, IsTreeFrom, IsTreeTo, IsSearched}
 use Rattle.forward_star.proofs.Turned.{reversed-reversed, IsGraph-reversed, IsWalk-reversed, walk_length-reversed, IsDist-reversed, IsDist-unreversed}
@@ -124,14 +123,6 @@ searched g s (Some r) None b bound is ball =
     }
 searched g s (Some r) (Some q) b bound is ball =
     subst (λ (x : ℕ). IsBall g s (Some x) b) is.0 ball
-
--- the target of a search that found it has its distance as its label
-pub found_label : (g : Graph) (s t : ℕ) (labels : List (Option ℕ)) (o : Option ℕ) → (found : IsLabelledTo g s t labels) → label_at labels t ≡ o → label_at labels t ≡ Some found.distance
-found_label g s t labels None found is =
-    let far : found.distance < walk_length g found.dist.0.path = found.labelled.far t is found.dist.0.path found.dist.0.walk in
-    absurd (omega (arith, found.dist.0.long))
-found_label g s t labels (Some k) found is =
-    is ∙ ap (λ (n : ℕ). Some n) (IsDist-same g s t k found.distance (found.labelled.near t k is).0 found.dist)
 
 -- what a walk leads to from a vertex is a vertex
 pub inside_vertex : (g : Graph) (radius : Option ℕ) (u v : ℕ) → IsGraph g → IsVertex g.vertices u → IsInside g radius u v → IsVertex g.vertices v

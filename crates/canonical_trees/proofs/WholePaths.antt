@@ -1,5 +1,5 @@
 -- What the walks that are found from the trees are.
-use Rattle.std.proofs.Common.{◌≡◌, ℕ, ◌<◌, ◌^◌, List, [], ◌++◌, reverse, Option, Some, None, IsSome, IfSome, sym, ap, ◌∙◌, subst, refl}
+use Rattle.std.proofs.Common.{◌≡◌, ℕ, ◌<◌, ◌^◌, List, [], ◌++◌, reverse, Option, Some, None, IsSome, IfSome, sym, ap, ◌∙◌, subst, refl, map, arith}
 use Rattle.road_model.specs.Graph.{Graph, IsVertex, reversed}
 use Rattle.road_model.specs.File.{IsWithinLimits}
 use Rattle.road_model.specs.Walk.{walk_length}
@@ -7,11 +7,11 @@ use Rattle.road_model.specs.Canonical.{IsFirst, IsLast}
 use Rattle.road_model.specs.Alternatives.{IsVia}
 use Rattle.road_model.proofs.Dists.{IsDist-same, dist_of_shortest}
 use Rattle.forward_star.proofs.Bound.{dists_below}
-use Rattle.tree_search.specs.Ball.{label_at, Reached, IsLabelledTo, IsFoundTo}
+use Rattle.tree_search.specs.Ball.{label_at, label_within, Reached, IsLabelled, IsLabelledTo}
 use Rattle.canonical_trees.specs.Tight.{IsRooted, Adds}
 use Rattle.canonical_trees.specs.Trees.{IsInside, IsLabel, IsTreeFrom, IsTreeTo}
 use Rattle.canonical_trees.proofs.Turned.{IsFirst-unreversed}
-use Rattle.canonical_trees.proofs.Balls.{rooted_from_source, some_label, IsInside-reversed, inside_vertex, found_label, dist_below}
+use Rattle.canonical_trees.proofs.Balls.{rooted_from_source, some_label, IsInside-reversed, inside_vertex, dist_below}
 
 -- a walk that was followed in the reversed graph, read backwards
 pub path_of_followed : (g h : Graph) (s v : ℕ) (old added path : List ℕ) → h ≡ reversed g → Adds h s v old added → old ≡ [] → path ≡ reverse added → IsFirst g s path v
@@ -34,27 +34,27 @@ pub via_of_halves : (g : Graph) (s t v : ℕ) (front path : List ℕ) → IsVert
 via_of_halves g s t v front path vertex first adds =
     record { vertex = vertex; front = front; back = adds.walk; first = first; last = adds.last; joined = adds.is }
 
-found_in : (g : Graph) (s t : ℕ) (found : Option (List (Option ℕ))) (labels : List (Option ℕ)) → IsFoundTo g s t found → found ≡ Some labels → IsLabelledTo g s t labels
-found_in g s t found labels h is = subst (λ (o : Option (List (Option ℕ))). IsFoundTo g s t o) is h
+-- the labels of a search to a target that was found
+pub rooted_found : (g : Graph) (s t distance : ℕ) (values : List ℕ) (labels : List (Option ℕ)) → IsWithinLimits g → IsLabelledTo g s t values distance → labels ≡ map (label_within distance) values → IsRooted (reversed g) s labels
+rooted_found g s t distance values labels limits hit is =
+    rooted_from_source g s (Some distance) labels limits (subst (λ (l : List (Option ℕ)). IsLabelled g s (Some distance) l) (sym is) hit.labelled)
 
-pub rooted_found : (g : Graph) (s t : ℕ) (found : Option (List (Option ℕ))) (labels : List (Option ℕ)) → IsWithinLimits g → IsFoundTo g s t found → found ≡ Some labels → IsRooted (reversed g) s labels
-rooted_found g s t found labels limits h is =
-    let hit = found_in g s t found labels h is in
-    rooted_from_source g s (Some hit.distance) labels limits hit.labelled
+pub labelled_found : (g : Graph) (s t distance : ℕ) (values : List ℕ) (labels : List (Option ℕ)) → IsLabelledTo g s t values distance → labels ≡ map (label_within distance) values → IsSome (label_at labels t)
+labelled_found g s t distance values labels hit is =
+    subst (λ (l : List (Option ℕ)). IsSome (label_at l t)) (sym is)
+    (some_label g s t (Some distance) (map (label_within distance) values) (label_at (map (label_within distance) values) t) hit.labelled refl
+    (record { distance = distance; dist = hit.dist; within = omega arith }))
 
--- the label of the target is the length of its canonical path, and no distance is long
+-- the distance of the target is the length of its canonical path, and no distance is long
 pub record IsLengthOf (g : Graph) (s t length : ℕ) : Type 0 where
   pub every : (p : List ℕ) → IsFirst g s p t → length ≡ walk_length g p
   pub short : length < 2 ^ 57
 
-pub length_found : (g : Graph) (s t length : ℕ) (found : Option (List (Option ℕ))) (labels : List (Option ℕ)) → IsWithinLimits g → IsFoundTo g s t found → found ≡ Some labels → label_at labels t ≡ Some length → IsLengthOf g s t length
-length_found g s t length found labels limits h is label =
-    let hit = found_in g s t found labels h is in
-    let both : Some hit.distance ≡ Some length = sym (found_label g s t labels (label_at labels t) hit refl) ∙ label in
-    let same : hit.distance ≡ length = cc in
+pub length_found : (g : Graph) (s t distance : ℕ) (values : List ℕ) → IsWithinLimits g → IsLabelledTo g s t values distance → IsLengthOf g s t distance
+length_found g s t distance values limits hit =
     record {
-      every = (λ p first. sym same ∙ IsDist-same g s t hit.distance (walk_length g p) hit.dist (dist_of_shortest g s t p first.shortest));
-      short = subst (λ (n : ℕ). n < 2 ^ 57) same (dist_below g s t hit.distance (2 ^ 57) (dists_below g limits) hit.dist);
+      every = (λ p first. IsDist-same g s t distance (walk_length g p) hit.dist (dist_of_shortest g s t p first.shortest));
+      short = dist_below g s t distance (2 ^ 57) (dists_below g limits) hit.dist;
     }
 
 -- a label is a distance, and so it isn't long

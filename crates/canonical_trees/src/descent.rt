@@ -9,7 +9,7 @@ use tree_search::Labels;
 
 /// The label behind the step, and its length, make what is left.
 #[inline]
-fn is_tight(labels: &Labels, step: &Step, left: u64) -> bool
+fn is_tight(labels: &Labels<'_>, step: &Step, left: u64) -> bool
     ensures { IsTrue result ↔ HasTightLabel labels.now left step.now }
 {
     match labels.label(step.head) {
@@ -22,7 +22,7 @@ fn is_tight(labels: &Labels, step: &Step, left: u64) -> bool
 /// it is the first one that fits.
 pub(crate) fn step_down<N: Network>(
     net: &N,
-    labels: &Labels,
+    labels: &Labels<'_>,
     root: Vertex,
     v: Vertex,
 ) -> Option<Step>
@@ -46,7 +46,7 @@ pub(crate) fn step_down<N: Network>(
 /// Adds the canonical path from `v` to `root`, an arc at a time.
 pub(crate) fn follow<N: Network>(
     net: &N,
-    labels: &Labels,
+    labels: &Labels<'_>,
     root: Vertex,
     v: Vertex,
     arcs: &mut Vec<ArcNo>,

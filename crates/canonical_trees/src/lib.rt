@@ -1,14 +1,16 @@
 //! The canonical shortest paths from a source and to a target: of all shortest walks the one whose arc numbers,
 //! read backwards from a vertex that is reached, or forwards to the target, are least in dictionary order.
 //!
-//! A tree keeps its labels alone. The arc of a vertex is found by a scan of its arcs, at the first that is tight.
+//! A tree keeps its labels alone, in a memory that serves many queries. The arc of a vertex is found by a scan of its arcs, at the first that is tight.
 #![tactic(auto)]
 
 mod descent;
 mod path;
 #[cfg(test)]
 mod tests;
+mod tree_memory;
 mod tree_pair;
 
-pub use path::{optimum, via_path};
-pub use tree_pair::{FromTree, ToTree, TreePair, tree_from, tree_to, trees};
+pub use path::{optimum, optimum_in, via_path};
+pub use tree_memory::TreeMemory;
+pub use tree_pair::{FromTree, ToTree, TreePair, tree_from, tree_to, trees, trees_in};

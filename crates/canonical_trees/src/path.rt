@@ -8,6 +8,7 @@ ghost use Rattle.canonical_trees.specs.Tight.{IsRooted};
 ghost use Rattle.canonical_trees.specs.Trees.{IsViaPath};
 
 use crate::descent::follow;
+use crate::tree_memory::TreeMemory;
 use crate::tree_pair::TreePair;
 use forward_star::Star;
 use road_model::{ArcList, ArcNo, NoMemory, Optimum, Vertex};
@@ -19,7 +20,7 @@ use tree_search::search::labels_to;
 pub(crate) fn path_from(
     alloc: Global,
     star: &Star,
-    labels: &Labels,
+    labels: &Labels<'_>,
     s: Vertex,
     v: Vertex,
 ) -> Result<Vec<ArcNo>, NoMemory>
@@ -62,11 +63,31 @@ pub fn optimum(
     ensures found { IfOk result (λ best. IsOptimum star.now s t best) }
     ensures short { IfOk result (λ best. IfSome best (λ o. o.length < 2 ^ 57)) }
 {
+    let mut memory = TreeMemory::new(alloc);
+    let best = optimum_in(alloc, &mut memory, star, s, t)?;
+    Ok(best)
+}
+
+/// The optimum that `optimum` finds, by a search in a kept memory. It takes what the search visits, and the time to
+/// take back the labels of the one before; 8 bytes a vertex only where the memory served no graph with as many
+/// vertices before.
+pub fn optimum_in(
+    alloc: Global,
+    memory: &mut TreeMemory,
+    star: &Star,
+    s: Vertex,
+    t: Vertex,
+) -> Result<Option<Optimum>, NoMemory>
+    requires source { IsVertex star.now.vertices s }
+    requires target { IsVertex star.now.vertices t }
+    ensures found { IfOk result (λ best. IsOptimum star.now s t best) }
+    ensures short { IfOk result (λ best. IfSome best (λ o. o.length < 2 ^ 57)) }
+{
     let _limits = star.graph();
-    let Some(labels) = labels_to(alloc, star, s, t)? else {
+    let Some(length) = labels_to(alloc, &mut memory.from, star, s, t)? else {
         return Ok(None);
     };
-    let length = labels.label(t).unwrap();
+    let labels = Labels::new(&memory.from.labels, length);
     let arcs = path_from(alloc, star, &labels, s, t)?;
     Ok(Some(Optimum {
         length,

@@ -3,18 +3,20 @@
 ghost use Rattle.std.specs.Prelude.{◌≡◌, ◌<◌, ◌^◌, IfOk, IfSome, OnOk};
 ghost use Rattle.road_model.specs.Graph.{IsVertex};
 ghost use Rattle.road_model.specs.Canonical.{IsFirst};
+ghost use Rattle.label_setting.specs.Search.{IsTracked};
 ghost use Rattle.canonical_trees.specs.Tight.{Adds};
 ghost use Rattle.canonical_trees.specs.Trees.{IsInside, IsLabel, IsMembersFrom, IsMembersTo, IsSearched};
 ghost use Rattle.canonical_trees.specs.Trees.{IsFromStep, IsToStep, IsFromArc, IsToArc};
 
 use crate::descent::{follow, step_down};
 use crate::path::path_from;
+use crate::tree_memory::TreeMemory;
 use forward_star::Star;
 use road_model::{ArcNo, NoMemory, Step, Vertex, VertexList};
 use std::alloc::Global;
 use std::marker::Model;
-use tree_search::Ball;
-use tree_search::search::ball;
+use tree_search::search::ball_in;
+use tree_search::{Ball, SearchMemory};
 
 /// No distance of a star is as long as this.
 const ABOVE_ALL: u64 = 144115188075855872;
@@ -78,8 +80,27 @@ pub fn tree_from<'a>(
     ensures { IfOk result
         (λ tree. tree ≡ record { graph = star.now; root = s; radius = radius }) }
 {
+    let mut memory = SearchMemory::new(alloc);
+    let tree = tree_from_in(alloc, &mut memory, star, s, radius)?;
+    Ok(tree)
+}
+
+/// The same in a kept memory, which `FromTree::into_memory` gives back.
+fn tree_from_in<'a>(
+    alloc: Global,
+    memory: &mut SearchMemory,
+    star: &'a Star,
+    s: Vertex,
+    radius: Option<u64>,
+) -> Result<FromTree<'a>, NoMemory>
+    requires vertex { IsVertex star.now.vertices s }
+    requires tracked { IsTracked memory.old.labels.items memory.old.touched.items }
+    ensures tree { IfOk result
+        (λ tree. tree ≡ record { graph = star.now; root = s; radius = radius }) }
+    ensures tracked { IsTracked memory.new.labels.items memory.new.touched.items }
+{
     let _limits = star.graph();
-    let ball = ball(alloc, star, s, searched(radius))?;
+    let ball = ball_in(alloc, memory, star, s, searched(radius))?;
     Ok(FromTree {
         star,
         source: s,
@@ -99,8 +120,27 @@ pub fn tree_to<'a>(
     ensures { IfOk result
         (λ tree. tree ≡ record { graph = star.now; root = t; radius = radius }) }
 {
+    let mut memory = SearchMemory::new(alloc);
+    let tree = tree_to_in(alloc, &mut memory, star, t, radius)?;
+    Ok(tree)
+}
+
+/// The same in a kept memory, which `ToTree::into_memory` gives back.
+fn tree_to_in<'a>(
+    alloc: Global,
+    memory: &mut SearchMemory,
+    star: &'a Star,
+    t: Vertex,
+    radius: Option<u64>,
+) -> Result<ToTree<'a>, NoMemory>
+    requires vertex { IsVertex star.now.vertices t }
+    requires tracked { IsTracked memory.old.labels.items memory.old.touched.items }
+    ensures tree { IfOk result
+        (λ tree. tree ≡ record { graph = star.now; root = t; radius = radius }) }
+    ensures tracked { IsTracked memory.new.labels.items memory.new.touched.items }
+{
     let _limits = star.graph();
-    let ball = ball(alloc, &star.reversed(), t, searched(radius))?;
+    let ball = ball_in(alloc, memory, &star.reversed(), t, searched(radius))?;
     Ok(ToTree {
         star,
         target: t,
@@ -123,8 +163,32 @@ pub fn trees<'a>(
     ensures { IfOk result
         (λ pair. pair ≡ record { graph = star.now; source = s; target = t; radius = radius }) }
 {
-    let from = tree_from(alloc, star, s, radius)?;
-    let to = tree_to(alloc, star, t, radius)?;
+    let mut memory = TreeMemory::new(alloc);
+    let pair = trees_in(alloc, &mut memory, star, s, t, radius)?;
+    Ok(pair)
+}
+
+/// The trees that `trees` finds, in a kept memory: the pair takes it along, and `TreePair::into_memory` gives it back.
+/// An empty one stays in its place, and serves as well where it isn't given back, also after an `Err`: the next call
+/// lays it out anew.
+///
+/// It takes what the two searches visit, and the time to take back the labels of those before; 16 bytes a vertex only
+/// where the memory served no graph with as many vertices before.
+pub fn trees_in<'a>(
+    alloc: Global,
+    memory: &mut TreeMemory,
+    star: &'a Star,
+    s: Vertex,
+    t: Vertex,
+    radius: Option<u64>,
+) -> Result<TreePair<'a>, NoMemory>
+    requires source { IsVertex star.now.vertices s }
+    requires target { IsVertex star.now.vertices t }
+    ensures { IfOk result
+        (λ pair. pair ≡ record { graph = star.now; source = s; target = t; radius = radius }) }
+{
+    let from = tree_from_in(alloc, &mut memory.from, star, s, radius)?;
+    let to = tree_to_in(alloc, &mut memory.to, star, t, radius)?;
     Ok(TreePair::of(from, to))
 }
 
@@ -152,7 +216,7 @@ impl FromTree<'_> {
     fn step(&self, v: Vertex) -> Option<Step>
         ensures { IsFromStep self.now.graph self.now.radius self.now.root v result }
     {
-        step_down(&self.star.reversed(), self.ball.labels(), self.source, v)
+        step_down(&self.star.reversed(), &self.ball.labels(), self.source, v)
     }
 
     fn path(&self, alloc: Global, v: Vertex) -> Result<Vec<ArcNo>, NoMemory>
@@ -160,7 +224,19 @@ impl FromTree<'_> {
         ensures path { IfOk result (λ arcs. IsFirst self.now.graph self.now.root arcs.items v) }
         ensures vertex { IsVertex self.now.graph.vertices v }
     {
-        path_from(alloc, self.star, self.ball.labels(), self.source, v)
+        path_from(alloc, self.star, &self.ball.labels(), self.source, v)
+    }
+
+    fn into_memory(self) -> SearchMemory
+        ensures { IsTracked result.labels.items result.touched.items }
+    {
+        let FromTree {
+            star: _,
+            source: _,
+            radius: _,
+            ball,
+        } = self;
+        ball.into_memory()
     }
 }
 
@@ -188,14 +264,26 @@ impl ToTree<'_> {
     fn step(&self, v: Vertex) -> Option<Step>
         ensures { IsToStep self.now.graph self.now.radius v self.now.root result }
     {
-        step_down(self.star, self.ball.labels(), self.target, v)
+        step_down(self.star, &self.ball.labels(), self.target, v)
     }
 
     fn add_path(&self, v: Vertex, arcs: &mut Vec<ArcNo>) -> Result<(), NoMemory>
         requires { IsInside self.now.graph self.now.radius v self.now.root }
         ensures { OnOk result (Adds self.now.graph self.now.root v arcs.old.items arcs.new.items) }
     {
-        follow(self.star, self.ball.labels(), self.target, v, arcs)
+        follow(self.star, &self.ball.labels(), self.target, v, arcs)
+    }
+
+    fn into_memory(self) -> SearchMemory
+        ensures { IsTracked result.labels.items result.touched.items }
+    {
+        let ToTree {
+            star: _,
+            target: _,
+            radius: _,
+            ball,
+        } = self;
+        ball.into_memory()
     }
 }
 
@@ -236,6 +324,15 @@ impl<'a> TreePair<'a> {
             } }
     {
         TreePair { from, to }
+    }
+
+    /// The memory of the two searches back, for another query. Takes no memory.
+    pub fn into_memory(self) -> TreeMemory {
+        let TreePair { from, to } = self;
+        TreeMemory {
+            from: from.into_memory(),
+            to: to.into_memory(),
+        }
     }
 
     /// The vertices of the ball from the source.

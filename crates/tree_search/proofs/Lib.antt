@@ -1,6 +1,1 @@
-pub mod Entries
-pub mod Steps
-pub mod Touches
-pub mod Searches
-pub mod Settles
-pub mod Heaps
+pub mod FoundLabels

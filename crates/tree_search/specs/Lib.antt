@@ -1,4 +1,2 @@
-pub mod Order
 pub mod Ball
-pub mod Front
 pub mod Oracle

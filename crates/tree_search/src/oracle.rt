@@ -2,7 +2,7 @@ ghost use Rattle.std.specs.Prelude.{◌≡◌, ◌^◌, IfOk};
 ghost use Rattle.road_model.specs.Graph.{LengthsBelow};
 ghost use Rattle.road_model.specs.Dist.{DistsBelow};
 
-use crate::front::{Front, Goal};
+use label_setting::{Goal, SearchMemory};
 use road_model::{Network, NoMemory, Oracle, Vertex};
 use std::alloc::Global;
 use std::marker::Model;
@@ -14,7 +14,7 @@ use std::marker::Model;
 #[derive(Drop)]
 pub struct PlainOracle<'a, N: Network> {
     net: &'a N,
-    front: Front,
+    memory: SearchMemory,
     asked: u64,
 }
 
@@ -25,7 +25,7 @@ impl<'a, N: Network> Model for PlainOracle<'a, N> {
 
     ghost view = { λ o. record { graph = N.graph o.net.now; asked = o.asked } };
 
-    ghost invariant = { λ o. IsReady (N.graph o.net.now) o.front };
+    ghost invariant = { λ o. IsReady (N.graph o.net.now) o.memory };
 }
 
 impl<'a, N: Network> PlainOracle<'a, N> {
@@ -35,10 +35,11 @@ impl<'a, N: Network> PlainOracle<'a, N> {
         requires near { DistsBelow (N.graph net.now) (2 ^ 57) }
         ensures { IfOk result (λ o. o ≡ record { graph = N.graph net.now; asked = 0 }) }
     {
-        let front = Front::new(alloc, net.vertices())?;
+        let mut memory = SearchMemory::new(alloc);
+        memory.prepare(alloc, net.vertices())?;
         Ok(PlainOracle {
             net,
-            front,
+            memory,
             asked: 0,
         })
     }
@@ -50,15 +51,15 @@ impl<'a, N: Network> Oracle for PlainOracle<'a, N> {
     ghost asked = { λ o. o.asked };
 
     fn distance(&mut self, from: Vertex, to: Vertex) -> Result<Option<u64>, NoMemory> {
-        self.front.reset();
+        self.memory.reset();
         let goal = Goal {
             root: from.number(),
             target: to.number(),
             radius: 144115188075855871,
         };
-        let limit = self.front.run(self.net, goal)?;
+        let limit = self.memory.run(self.net, goal)?;
         self.asked = self.asked.saturating_add(1);
-        let label = self.front.labels[to.number() as usize];
+        let label = self.memory.labels[to.number() as usize];
         if label > limit {
             return Ok(None);
         }
@@ -66,6 +67,6 @@ impl<'a, N: Network> Oracle for PlainOracle<'a, N> {
     }
 
     fn settled(&self) -> u64 {
-        self.front.settled
+        self.memory.settled
     }
 }

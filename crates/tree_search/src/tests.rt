@@ -1,3 +1,5 @@
+ghost use Rattle.label_setting.specs.Search.{IsTracked};
+
 use super::*;
 use forward_star::Star;
 use road_model::{ArcRow, ArcRows, GraphFile, Oracle, Vertex};
@@ -36,16 +38,22 @@ fn ball_of(alloc: Global, star: &Star, root: u32, radius: Option<u64>) -> Result
     Ok(search::ball(alloc, star, Vertex(root), radius)?)
 }
 
-fn distance_to(alloc: Global, star: &Star, root: u32, target: u32) -> Result<Option<u64>, Fail> {
+fn distance_to(
+    alloc: Global,
+    memory: &mut SearchMemory,
+    star: &Star,
+    root: u32,
+    target: u32,
+) -> Result<Option<u64>, Fail>
+    requires { IsTracked memory.old.labels.items memory.old.touched.items }
+    ensures { IsTracked memory.new.labels.items memory.new.touched.items }
+{
     let vertices = star.graph().vertices();
     if root == 0 || root > vertices || target == 0 || target > vertices {
         return Err("no such vertex".into());
     }
-    let found = search::labels_to(alloc, star, Vertex(root), Vertex(target))?;
-    match found {
-        None => Ok(None),
-        Some(labels) => Ok(labels.label(Vertex(target))),
-    }
+    let found = search::labels_to(alloc, memory, star, Vertex(root), Vertex(target))?;
+    Ok(found)
 }
 
 // The distances of these pairs, by one oracle.
@@ -116,8 +124,9 @@ fn answers_distances(rt: HostRuntime) -> Result<(), Fail> {
 #[test]
 fn searches_up_to_a_target(rt: HostRuntime) -> Result<(), Fail> {
     let star = star_of(rt.alloc())?;
-    assert_eq!(rt; distance_to(rt.alloc(), &star, 2, 4)?, Some(7));
-    assert_eq!(rt; distance_to(rt.alloc(), &star, 1, 5)?, None);
-    assert_eq!(rt; distance_to(rt.alloc(), &star, 6, 6)?, Some(0));
+    let mut memory = SearchMemory::new(rt.alloc());
+    assert_eq!(rt; distance_to(rt.alloc(), &mut memory, &star, 2, 4)?, Some(7));
+    assert_eq!(rt; distance_to(rt.alloc(), &mut memory, &star, 1, 5)?, None);
+    assert_eq!(rt; distance_to(rt.alloc(), &mut memory, &star, 6, 6)?, Some(0));
     Ok(())
 }

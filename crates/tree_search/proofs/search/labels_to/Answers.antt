@@ -1,12 +1,11 @@
-use Rattle.std.proofs.Common.{◌≡◌, ◌<◌, ◌≤◌, ℕ, List, Option, get_or, length, arith, ap, sym, ◌∙◌, subst}
+use Rattle.std.proofs.Common.{◌≡◌, ◌<◌, ◌≤◌, ℕ, get_or, length, arith, ap, ◌∙◌, subst}
 use Rattle.std.proofs.lemmas.List.{get_or_default}
-use Rattle.tree_search.specs.Ball.{IsLabelledTo}
-use Rattle.tree_search.specs.Front.{IsSettled, IsAimed}
-use Rattle.tree_search.proofs.Settles.{found}
+use Rattle.label_setting.specs.Search.{IsSettled, IsAimed}
+use Rattle.tree_search.proofs.FoundLabels.{found}
 use Rattle.tree_search.proofs.search.labels_to.Goals as goal
 
-pub returns : goal.returns
-returns g c =
+pub returns-clause-found : goal.returns-clause-found
+returns-clause-found g c =
     let graph = g.N.Network.graph c.args.net.now in
     let labels = c.run.new.self.labels.items in
     let limit = c.in_ok-limit.limit in
@@ -22,5 +21,5 @@ returns g c =
     let read : c.index.result.now ≡ get_or labels c.args.target 0 = c.index.ensures ∙ get_or_default labels c.number-3.result c.index.result.now 0 inside ∙ ap (λ (i : ℕ). get_or labels i 0) place in
     let below = c.if-index-limit.false in
     let low : get_or labels c.args.target 0 ≤ limit = omega arith in
-    let whole = found graph c.args.root c.args.target 288230376151711743 limit labels c.vertices.ensures.sound c.requires.inside c.requires.target_inside settled aim low in
-    subst (λ (ls : List (Option ℕ)). IsLabelledTo graph c.args.root c.args.target ls) (sym c.new-2.ensures) whole
+    let within = c.in_ok-limit.ensures.within in
+    found graph c.args.root c.args.target 288230376151711743 limit labels c.vertices.ensures.sound c.requires.inside c.requires.target_inside settled (omega arith) aim low

@@ -8,7 +8,7 @@ use Rattle.canonical_trees.proofs.tree_pair.FromTree.path.Goals as goal
 pub path_from-requires-clause-rooted : goal.path_from-requires-clause-rooted
 path_from-requires-clause-rooted c =
     let t = c.self.inside in
-    rooted_scan_from t.star.now (reversed t.star.now) t.source t.radius t.ball c.labels.result.now refl c.labels.ensures c.self.invariant
+    rooted_scan_from t.star.now (reversed t.star.now) t.source t.radius t.ball c.labels.result refl c.labels.ensures c.self.invariant
 
 pub returns-clause-vertex : goal.returns-clause-vertex
 returns-clause-vertex c =

@@ -7,10 +7,10 @@ use Rattle.canonical_trees.proofs.tree_pair.ToTree.add_path.Goals as goal
 pub follow-requires-clause-rooted : goal.follow-requires-clause-rooted
 follow-requires-clause-rooted c =
     let t = c.self.inside in
-    rooted_scan_to t.star.now t.target t.radius t.ball c.labels.result.now c.labels.ensures c.self.invariant
+    rooted_scan_to t.star.now t.target t.radius t.ball c.labels.result c.labels.ensures c.self.invariant
 
 pub follow-requires-clause-labelled : goal.follow-requires-clause-labelled
 follow-requires-clause-labelled c =
     let t = c.self.inside in
     let inside = subst (λ (x : Tree). IsInside x.graph x.radius c.args.v x.root) (sym c.self.view_is) c.requires in
-    labelled_to t.star.now t.target c.args.v t.radius t.ball c.labels.result.now c.labels.ensures c.self.invariant inside
+    labelled_to t.star.now t.target c.args.v t.radius t.ball c.labels.result c.labels.ensures c.self.invariant inside

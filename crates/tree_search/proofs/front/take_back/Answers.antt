@@ -1,6 +1,0 @@
-use Rattle.std.proofs.Common.{arith}
-use Rattle.tree_search.proofs.Touches.{bare_from_none_left}
-use Rattle.tree_search.proofs.front.take_back.Goals as goal
-
-pub returns : goal.returns
-returns c = bare_from_none_left c.loop-v.labels c.args.touched.now c.loop-v.v-index c.loop-v.invariant (omega arith)
