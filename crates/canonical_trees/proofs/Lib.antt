@@ -7,3 +7,4 @@ pub mod Balls
 pub mod Arcs
 pub mod Bounds
 pub mod WholePaths
+pub mod CanonicalExists

@@ -9,7 +9,6 @@ pub mod Refusals
 pub mod Names
 pub mod ListedRoutes
 pub mod Posed
-pub mod CanonicalExists
 pub mod PathsThrough
 pub mod LeastVia
 pub mod Judgements

@@ -12,7 +12,7 @@ use Rattle.via_search.specs.declared.candidates.Candidate.{Candidate}
 use Rattle.via_search.specs.Candidates.{IsCandidate, FindsCandidate}
 use Rattle.via_search.specs.Through.{HasPathThrough, IsLengthThrough}
 use Rattle.via_search.proofs.ViaPaths.{IsVia-unique, via_length}
-use Rattle.via_search.proofs.CanonicalExists.{first_of_dist, last_of_dist}
+use Rattle.canonical_trees.proofs.CanonicalExists.{first_of_dist, last_of_dist}
 
 -- an oracle's distance is one of the star, and it isn't long
 pub dist_here : (g o : Graph) (u v : ℕ) (d : Option ℕ) → HaveSameDist g o → IsDist o u v d → IsDist g u v d
