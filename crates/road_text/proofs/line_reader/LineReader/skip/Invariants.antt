@@ -1,4 +1,4 @@
-use Rattle.std.proofs.Common.{◌≡◌, ℕ, ◌+◌, ◌-◌, ◌<◌, ◌≤◌, List, [], ◌++◌, length}
+use Rattle.std.proofs.Common.{◌≡◌, ℕ, ◌+◌, ◌-◌, ◌<◌, List, [], ◌++◌, length}
 use Rattle.road_io.specs.Told.{IfTold}
 use Rattle.road_text.specs.Lines.{HasNoFeed}
 use Rattle.road_text.specs.Fields.{first_byte}
