@@ -37,7 +37,7 @@ lines-preserved g c =
       told = IfTold_both _ _ _ _ _ _
           (λ (x y z : List ℕ) (p : Gathers (budget mid) x (held mid ++ y) c.lines.builder) (q : Steps mid c.advance-advance.new.self (held mid ++ y) z c.advance-advance.result). subst (λ (v : Gathered). GathersOn c.advance-advance.new.self x z c.gather.new.self (Ok v)) c.in-Ok-More.field-0-is (c.in-Ok-More.ensures.gathered mid x y z so_far.limit p q))
           so_far.told c.advance-advance.ensures.steps;
-      quiet = c.advance-advance.ensures.quiet (λ e. ?) ∙ so_far.quiet;
+      quiet = c.advance-advance.ensures.quiet (λ e. let h = c.gather.ensures.told e in let k = c.in-Ok-More.is in cc) ∙ so_far.quiet;
       unpicked = c.advance-advance.ensures.unpicked ∙ so_far.unpicked;
     }
 

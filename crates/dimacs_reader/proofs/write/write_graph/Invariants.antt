@@ -1,4 +1,4 @@
-use Rattle.std.proofs.Common.{◌≡◌, ℕ, ◌≤◌, List, ◌++◌}
+use Rattle.std.proofs.Common.{◌≡◌, ℕ, List, ◌++◌}
 use Rattle.road_io.specs.Sink.{Writes}
 use Rattle.road_io.specs.declared.writing.Put.TheVariants.{Done}
 use Rattle.dimacs_reader.specs.Pending.{pending}
