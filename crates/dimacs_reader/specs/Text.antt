@@ -3,7 +3,7 @@
 --   row_text       the line `a U V W` with its line feed
 --   graph_text     the whole text
 -- Numbers are canonical, and one space stands between fields.
-use Rattle.std.specs.Prelude.{ℕ, List, [], ◌∷◌, ◌++◌, length, codes, decimal}
+use Rattle.std.specs.Prelude.{ℕ, List, [], ◌∷◌, ◌++◌, codes, decimal}
 use Rattle.std.specs.List.{flat_map}
 use Rattle.road_model.specs.declared.rows.ArcRow.{ArcRow}
 use Rattle.road_model.specs.Graph.{Graph, rows_of, arc_count}

@@ -108,6 +108,7 @@ impl Builder {
         ensures lines { self.new.lines ≤ self.old.lines + 1 }
         ensures goes_on { result ≡ Ok Gathered.More → GoesOn advance }
         ensures failed { result ≡ Err GraphError.ReadFault → advance ≡ Advance.Failed }
+        ensures told { advance ≡ Advance.Failed → result ≡ Err GraphError.ReadFault }
         ensures gathered { (old : LineReader) (text rest after : List ℕ) → limit_of old ≡ MAX_LINE
             → Gathers (budget old) text (held old ++ rest) self.old
             → Steps old reader.now (held old ++ rest) after advance

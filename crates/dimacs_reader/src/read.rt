@@ -1,6 +1,6 @@
 //! A graph out of a source.
 
-ghost use Rattle.std.specs.Prelude.{◌≡◌, ◌≤◌, Err};
+ghost use Rattle.std.specs.Prelude.{◌≡◌, ◌≢◌, ◌≤◌, Err};
 ghost use Rattle.road_io.specs.Told.{IfTold};
 ghost use Rattle.road_io.specs.Count.{HasRisen};
 ghost use Rattle.dimacs_reader.specs.Reads.{ReadsGraph};
@@ -16,14 +16,16 @@ use std::alloc::Global;
 /// Reads a graph file to its end, or to its first fault.
 ///
 /// It takes 16 bytes for each arc of the problem line and 128 KB beside them, and time in proportion
-/// to the file. `ReadFault` comes only where a read failed and no line that was read whole before it
-/// has a fault; what was read by then is lost.
+/// to the file. `ReadFault` comes where a read failed and no line that was read whole before it has a
+/// fault, and only there; what was read by then is lost.
 pub fn read_graph<S: Source>(alloc: Global, source: &mut S) -> Result<GraphFile, GraphError>
     ensures reads { IfTold (S.left source.old) (S.left source.new)
         (λ text rest. ReadsGraph text rest result) }
     ensures count { S.faults source.old ≤ S.faults source.new }
     ensures cause { result ≡ Err GraphError.ReadFault
         → HasRisen (S.faults source.old) (S.faults source.new) }
+    ensures quiet { result ≢ Err GraphError.ReadFault → S.faults source.new ≡ S.faults source.old }
+    ensures unpicked { S.picked source.new ≡ S.picked source.old }
 {
     let mut reader = LineReader::new(alloc, MAX_LINE, MAX_FILE)?;
     let mut builder = Builder::new(alloc);

@@ -1,6 +1,6 @@
 //! A graph into a sink.
 
-ghost use Rattle.std.specs.Prelude.{◌≡◌, ◌+◌, ◌<◌, ◌≤◌, ◌^◌, ◌++◌, [], Ok, length, decimal};
+ghost use Rattle.std.specs.Prelude.{◌≡◌, ◌≢◌, ◌+◌, ◌<◌, ◌≤◌, ◌^◌, ◌++◌, [], Ok, length, decimal};
 ghost use Rattle.road_io.specs.Sink.{Writes};
 ghost use Rattle.road_io.specs.Count.{HasRisen};
 ghost use Rattle.dimacs_reader.specs.declared.write.TheConstants.{ROOM, LINE_ROOM};
@@ -88,6 +88,7 @@ impl Pending {
         ensures empty { self.new.used ≡ 0 }
         ensures count { K.faults sink.old ≤ K.faults sink.new }
         ensures cause { result ≡ Put.Failed → HasRisen (K.faults sink.old) (K.faults sink.new) }
+        ensures quiet { result ≢ Put.Failed → K.faults sink.new ≡ K.faults sink.old }
     {
         let used = self.used;
         self.used = 0;
@@ -101,6 +102,7 @@ impl Pending {
             (K.written sink.old) (K.written sink.new) result }
         ensures count { K.faults sink.old ≤ K.faults sink.new }
         ensures cause { result ≡ Put.Failed → HasRisen (K.faults sink.old) (K.faults sink.new) }
+        ensures quiet { result ≢ Put.Failed → K.faults sink.new ≡ K.faults sink.old }
     {
         if self.used + LINE_ROOM <= ROOM {
             Put::Done
@@ -118,6 +120,7 @@ pub fn write_graph<K: Sink>(sink: &mut K, graph: &GraphFile) -> Put
     ensures read_again { gr_text (graph_text graph.now) ≡ Ok graph.now }
     ensures count { K.faults sink.old ≤ K.faults sink.new }
     ensures cause { result ≡ Put.Failed → HasRisen (K.faults sink.old) (K.faults sink.new) }
+    ensures quiet { result ≢ Put.Failed → K.faults sink.new ≡ K.faults sink.old }
 {
     let mut text = Pending::new();
     text.push_problem(graph.vertices(), graph.arcs().len());

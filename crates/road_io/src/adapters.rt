@@ -1,4 +1,4 @@
-ghost use Rattle.std.specs.Prelude.{◌≡◌, ◌≤◌, OnOk, None};
+ghost use Rattle.std.specs.Prelude.{◌≡◌, ◌≢◌, ◌≤◌, OnOk, None};
 ghost use Rattle.std.specs.Io.{ReadsAtMost};
 ghost use Rattle.std.specs.Io.KnownBytes.{Appends};
 ghost use Rattle.road_io.specs.Count.{HasRisen};
@@ -39,6 +39,8 @@ impl<R: Files + Drop> Source for FileShelf<R> {
     ghost left = { λ _. None };
 
     ghost faults = { λ s. s.faults };
+
+    ghost picked = { λ _. None };
 
     fn read(&mut self, room: &mut [u8]) -> Read {
         match &mut self.file {
@@ -90,6 +92,8 @@ impl<R: Input> Source for StdinSource<R> {
 
     ghost faults = { λ s. s.faults };
 
+    ghost picked = { λ _. None };
+
     fn read(&mut self, room: &mut [u8]) -> Read {
         let read = self.reader.read(room);
         answer(read, room, &mut self.faults)
@@ -139,6 +143,7 @@ fn answer(read: io::Result<usize>, room: &[u8], faults: &mut u64) -> Read
     ensures reads { Reads room.now None None result }
     ensures count { faults.old ≤ faults.new }
     ensures cause { result ≡ Read.Failed → HasRisen faults.old faults.new }
+    ensures quiet { result ≢ Read.Failed → faults.new ≡ faults.old }
 {
     match read {
         Ok(0) => Read::End,

@@ -1,9 +1,9 @@
 //! The outside of the route server, as traits: where bytes come from, where they go, and files by
 //! name.
 //!
-//! Each object keeps a count of its faults, which never falls, and a call answers `Failed` only
-//! where the count rose in that call. What an object holds is told to contracts where it lies in
-//! memory, and isn't told where it is a file, a socket or a terminal.
+//! Each object keeps a count of its faults, which rises in a call that answers `Failed` and in no
+//! other call. What an object holds is told to contracts where it lies in memory, and isn't told
+//! where it is a file, a socket or a terminal.
 #![tactic(auto)]
 
 mod adapters;

@@ -1,4 +1,4 @@
-ghost use Rattle.std.specs.Prelude.{◌≡◌, ◌<◌, ◌≤◌, ◌↔◌, [], ◌++◌, Some, IsTrue, IsSome, length};
+ghost use Rattle.std.specs.Prelude.{◌≡◌, ◌≢◌, ℕ, ◌<◌, ◌≤◌, ◌↔◌, [], ◌++◌, List, Option, None, Some, IsTrue, IsSome, length};
 ghost use Rattle.road_io.specs.Told.{text_told};
 ghost use Rattle.road_io.specs.Count.{HasRisen};
 ghost use Rattle.road_io.specs.Source.{Reads};
@@ -51,11 +51,14 @@ impl Source for MemSource<'_> {
 
     ghost faults = { λ s. (source_calls s).faults };
 
+    ghost picked = { λ _. None };
+
     fn read(&mut self, room: &mut [u8]) -> Read
         requires { 0 < length room.old }
         ensures reads { Reads room.new (Some (text_told (source_left self.old))) (Some (text_told (source_left self.new))) result }
         ensures count { (source_calls self.old).faults ≤ (source_calls self.new).faults }
         ensures cause { result ≡ Read.Failed → HasRisen (source_calls self.old).faults (source_calls self.new).faults }
+        ensures quiet { result ≢ Read.Failed → (source_calls self.new).faults ≡ (source_calls self.old).faults }
         ensures fails { (result ≡ Read.Failed) ↔ IsTrue (is_to_fail (source_calls self.old)) }
         ensures takes { TakesPiece (source_piece self.old) (length room.old) (source_left self.old) result }
         ensures made { (source_calls self.new).made ≡ one_more (source_calls self.old).made }
@@ -115,6 +118,7 @@ impl Sink for MemSink<'_> {
         ensures writes { Writes piece.now (Some (text_told (sink_bytes self.old))) (Some (text_told (sink_bytes self.new))) result }
         ensures count { (sink_calls self.old).faults ≤ (sink_calls self.new).faults }
         ensures cause { result ≡ Put.Failed → HasRisen (sink_calls self.old).faults (sink_calls self.new).faults }
+        ensures quiet { result ≢ Put.Failed → (sink_calls self.new).faults ≡ (sink_calls self.old).faults }
         ensures fails { IsTrue (is_to_fail (sink_calls self.old)) → result ≡ Put.Failed }
         ensures nothing { result ≡ Put.Failed → sink_bytes self.new ≡ sink_bytes self.old }
         ensures made { (sink_calls self.new).made ≡ one_more (sink_calls self.old).made }
@@ -173,11 +177,14 @@ impl Source for MemShelf<'_> {
 
     ghost faults = { λ s. (shelf_calls s).faults };
 
+    ghost picked = { λ _. None };
+
     fn read(&mut self, room: &mut [u8]) -> Read
         requires { 0 < length room.old }
         ensures reads { Reads room.new (Some (shelf_told self.old)) (Some (shelf_told self.new)) result }
         ensures count { (shelf_calls self.old).faults ≤ (shelf_calls self.new).faults }
         ensures cause { result ≡ Read.Failed → HasRisen (shelf_calls self.old).faults (shelf_calls self.new).faults }
+        ensures quiet { result ≢ Read.Failed → (shelf_calls self.new).faults ≡ (shelf_calls self.old).faults }
         ensures fails { (result ≡ Read.Failed) ↔ IsTrue (is_to_fail (shelf_calls self.old)) }
         ensures takes { TakesPiece (shelf_piece self.old) (length room.old) (shelf_told self.old).bytes result }
         ensures made { (shelf_calls self.new).made ≡ one_more (shelf_calls self.old).made }
@@ -196,6 +203,7 @@ impl Shelf for MemShelf<'_> {
         ensures picks { Picks name.now (Some (shelf_told self.old)) (Some (shelf_told self.new)) result }
         ensures count { (shelf_calls self.old).faults ≤ (shelf_calls self.new).faults }
         ensures cause { result ≡ Picked.Failed → HasRisen (shelf_calls self.old).faults (shelf_calls self.new).faults }
+        ensures quiet { result ≢ Picked.Failed → (shelf_calls self.new).faults ≡ (shelf_calls self.old).faults }
         ensures fails { IsTrue (is_to_fail (shelf_calls self.old)) → result ≡ Picked.Failed }
         ensures found { result ≡ Picked.Failed → IsSome ((shelf_told self.old).files name.now) → IsTrue (is_to_fail (shelf_calls self.old)) }
         ensures made { (shelf_calls self.new).made ≡ one_more (shelf_calls self.old).made }

@@ -1,4 +1,4 @@
-ghost use Rattle.std.specs.Prelude.{◌≡◌, ℕ, ◌<◌, ◌≤◌, Option, length};
+ghost use Rattle.std.specs.Prelude.{◌≡◌, ◌≢◌, ℕ, ◌<◌, ◌≤◌, List, Option, length};
 ghost use Rattle.road_io.specs.Told.{Told};
 ghost use Rattle.road_io.specs.Count.{HasRisen};
 ghost use Rattle.road_io.specs.Source.{Reads};
@@ -25,19 +25,26 @@ pub trait Source {
     // How often a call of it failed.
     ghost faults: { Self → ℕ };
 
+    // The names that it was asked for as a shelf, if it tells them.
+    ghost picked: { Self → Option (List (List ℕ)) };
+
     /// Reads what comes next into the front of `room`; how much of it one read takes is the
     /// source's choice. The rest of `room` may be overwritten too.
     fn read(&mut self, room: &mut [u8]) -> Read
         requires { 0 < length room.old }
         ensures reads { Reads room.new (left self.old) (left self.new) result }
         ensures count { faults self.old ≤ faults self.new }
-        ensures cause { result ≡ Read.Failed → HasRisen (faults self.old) (faults self.new) };
+        ensures cause { result ≡ Read.Failed → HasRisen (faults self.old) (faults self.new) }
+        ensures quiet { result ≢ Read.Failed → faults self.new ≡ faults self.old }
+        ensures unpicked { picked self.new ≡ picked self.old };
 }
 
 impl<S: Source> Source for &mut S {
     ghost left = { λ s. S.left s.now };
 
     ghost faults = { λ s. S.faults s.now };
+
+    ghost picked = { λ s. S.picked s.now };
 
     fn read(&mut self, room: &mut [u8]) -> Read {
         (**self).read(room)

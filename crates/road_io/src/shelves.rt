@@ -1,6 +1,6 @@
-ghost use Rattle.std.specs.Prelude.{◌≡◌, ◌≤◌};
+ghost use Rattle.std.specs.Prelude.{◌≡◌, ◌≢◌, ◌≤◌};
 ghost use Rattle.road_io.specs.Count.{HasRisen};
-ghost use Rattle.road_io.specs.Shelf.{Picks};
+ghost use Rattle.road_io.specs.Shelf.{Picks, with_name};
 
 use crate::reading::Source;
 
@@ -20,7 +20,9 @@ pub trait Shelf: Source {
     fn pick(&mut self, name: &str) -> Picked
         ensures picks { Picks name.now (Self.left self.old) (Self.left self.new) result }
         ensures count { Self.faults self.old ≤ Self.faults self.new }
-        ensures cause { result ≡ Picked.Failed → HasRisen (Self.faults self.old) (Self.faults self.new) };
+        ensures cause { result ≡ Picked.Failed → HasRisen (Self.faults self.old) (Self.faults self.new) }
+        ensures quiet { result ≢ Picked.Failed → Self.faults self.new ≡ Self.faults self.old }
+        ensures picked { Self.picked self.new ≡ with_name name.now (Self.picked self.old) };
 }
 
 impl<F: Shelf> Shelf for &mut F {

@@ -33,6 +33,8 @@ impl Source for SureSource<'_> {
 
     ghost faults = { λ _. 0 };
 
+    ghost picked = { λ _. None };
+
     fn read(&mut self, room: &mut [u8]) -> Read {
         self.rest.take(room)
     }
@@ -76,6 +78,8 @@ impl Source for SureShelf<'_> {
     ghost left = { λ s. Some (sure_told s) };
 
     ghost faults = { λ _. 0 };
+
+    ghost picked = { λ _. None };
 
     fn read(&mut self, room: &mut [u8]) -> Read {
         self.rest.take(room)

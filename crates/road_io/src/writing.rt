@@ -1,4 +1,4 @@
-ghost use Rattle.std.specs.Prelude.{◌≡◌, ℕ, ◌≤◌, Option};
+ghost use Rattle.std.specs.Prelude.{◌≡◌, ◌≢◌, ℕ, ◌≤◌, Option};
 ghost use Rattle.road_io.specs.Told.{Told};
 ghost use Rattle.road_io.specs.Count.{HasRisen};
 ghost use Rattle.road_io.specs.Sink.{Writes};
@@ -25,7 +25,8 @@ pub trait Sink {
     fn write(&mut self, piece: &[u8]) -> Put
         ensures writes { Writes piece.now (written self.old) (written self.new) result }
         ensures count { faults self.old ≤ faults self.new }
-        ensures cause { result ≡ Put.Failed → HasRisen (faults self.old) (faults self.new) };
+        ensures cause { result ≡ Put.Failed → HasRisen (faults self.old) (faults self.new) }
+        ensures quiet { result ≢ Put.Failed → faults self.new ≡ faults self.old };
 }
 
 impl<K: Sink> Sink for &mut K {

@@ -1,6 +1,6 @@
 //! Lines out of any source, one at a time, in bounded memory.
 
-ghost use Rattle.std.specs.Prelude.{◌≡◌, true, false, ◌+◌, ◌-◌, ◌<◌, ◌≤◌, ◌++◌, [], length, take, IfOk, OnOk, vec_len, slice_index, slice_range, MatchOption};
+ghost use Rattle.std.specs.Prelude.{◌≡◌, ◌≢◌, true, false, ◌+◌, ◌-◌, ◌<◌, ◌≤◌, ◌++◌, [], length, take, IfOk, OnOk, vec_len, slice_index, slice_range, MatchOption};
 ghost use Rattle.road_io.specs.Told.{IfTold};
 ghost use Rattle.road_io.specs.Count.{HasRisen};
 ghost use Rattle.road_io.specs.Source.{Reads};
@@ -172,6 +172,8 @@ impl LineReader {
         ensures count { S.faults source.old ≤ S.faults source.new }
         ensures cause { result ≡ Fill.Failed
             → HasRisen (S.faults source.old) (S.faults source.new) }
+        ensures quiet { result ≢ Fill.Failed → S.faults source.new ≡ S.faults source.old }
+        ensures unpicked { S.picked source.new ≡ S.picked source.old }
     {
         let from = self.end;
         let room = ((ROOM - from) as u64).min(self.most - self.taken) as usize;
@@ -195,6 +197,8 @@ impl LineReader {
         ensures count { S.faults source.old ≤ S.faults source.new }
         ensures cause { result ≡ Fill.Failed
             → HasRisen (S.faults source.old) (S.faults source.new) }
+        ensures quiet { result ≢ Fill.Failed → S.faults source.new ≡ S.faults source.old }
+        ensures unpicked { S.picked source.new ≡ S.picked source.old }
     {
         let mut room = [0u8; 1];
         match source.read(&mut room) {
@@ -214,6 +218,8 @@ impl LineReader {
         ensures count { S.faults source.old ≤ S.faults source.new }
         ensures cause { result ≡ Fill.Failed
             → HasRisen (S.faults source.old) (S.faults source.new) }
+        ensures quiet { result ≢ Fill.Failed → S.faults source.new ≡ S.faults source.old }
+        ensures unpicked { S.picked source.new ≡ S.picked source.old }
     {
         self.to_front();
         if self.taken == self.most {
@@ -243,6 +249,8 @@ impl LineReader {
         ensures count { S.faults source.old ≤ S.faults source.new }
         ensures cause { result ≡ Advance.Failed
             → HasRisen (S.faults source.old) (S.faults source.new) }
+        ensures quiet { result ≢ Advance.Failed → S.faults source.new ≡ S.faults source.old }
+        ensures unpicked { S.picked source.new ≡ S.picked source.old }
     {
         let mut first = first_byte(&self.buffer[self.start..self.end]);
         self.forget();
@@ -285,6 +293,8 @@ impl LineReader {
         ensures count { S.faults source.old ≤ S.faults source.new }
         ensures cause { result ≡ Advance.Failed
             → HasRisen (S.faults source.old) (S.faults source.new) }
+        ensures quiet { result ≢ Advance.Failed → S.faults source.new ≡ S.faults source.old }
+        ensures unpicked { S.picked source.new ≡ S.picked source.old }
     {
         let mut seen = 0;
         'pieces: loop {
@@ -336,6 +346,8 @@ fn read_into<S: Source>(source: &mut S, buffer: &mut [u8], from: usize, to: usiz
         (S.left source.old) (S.left source.new) result }
     ensures count { S.faults source.old ≤ S.faults source.new }
     ensures cause { result ≡ Read.Failed → HasRisen (S.faults source.old) (S.faults source.new) }
+    ensures quiet { result ≢ Read.Failed → S.faults source.new ≡ S.faults source.old }
+    ensures unpicked { S.picked source.new ≡ S.picked source.old }
 {
     source.read(&mut buffer[from..to])
 }

@@ -1,4 +1,4 @@
-use Rattle.std.proofs.Common.{ℕ, List, [], ◌++◌, Ok, subst, ap, ◌∙◌, arith}
+use Rattle.std.proofs.Common.{ℕ, List, [], ◌++◌, Ok, refl, subst, ap, ◌∙◌, arith}
 use Rattle.road_io.proofs.ToldLemmas.{IfTold_both, told_same}
 use Rattle.road_text.specs.Reader.{held, budget, Steps}
 use Rattle.road_text.proofs.BehindLemmas.{IsBehind-fresh}
@@ -22,7 +22,8 @@ lines-init g c =
         after = c.new-builder.ensures.after;
         clean = first_fault-nil [];
       });
-      count = omega arith;
+      quiet = refl;
+      unpicked = refl;
     }
 
 pub lines-preserved : goal.lines-preserved
@@ -36,7 +37,8 @@ lines-preserved g c =
       told = IfTold_both _ _ _ _ _ _
           (λ (x y z : List ℕ) (p : Gathers (budget mid) x (held mid ++ y) c.lines.builder) (q : Steps mid c.advance-advance.new.self (held mid ++ y) z c.advance-advance.result). subst (λ (v : Gathered). GathersOn c.advance-advance.new.self x z c.gather.new.self (Ok v)) c.in-Ok-More.field-0-is (c.in-Ok-More.ensures.gathered mid x y z so_far.limit p q))
           so_far.told c.advance-advance.ensures.steps;
-      count = (let h = so_far.count in omega (arith, c.advance-advance.ensures.count));
+      quiet = c.advance-advance.ensures.quiet (λ e. let h = c.gather.ensures.told e in let k = c.in-Ok-More.is in cc) ∙ so_far.quiet;
+      unpicked = c.advance-advance.ensures.unpicked ∙ so_far.unpicked;
     }
 
 pub returns-in-Ok-All-clause-reads : goal.returns-in-Ok-All-clause-reads

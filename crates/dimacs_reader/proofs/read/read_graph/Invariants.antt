@@ -12,7 +12,8 @@ invariant-lines g l = record {
   limit : limit_of l.reader ≡ MAX_LINE;
   few : l.builder.lines + budget l.reader ≤ MAX_FILE;
   told : IfTold (g.S.Source.left l.initial.source) (g.S.Source.left l.source) (λ (text rest : List ℕ). Gathers (budget l.reader) text (held l.reader ++ rest) l.builder);
-  count : g.S.Source.faults l.initial.source ≤ g.S.Source.faults l.source;
+  quiet : g.S.Source.faults l.source ≡ g.S.Source.faults l.initial.source;
+  unpicked : g.S.Source.picked l.source ≡ g.S.Source.picked l.initial.source;
 }
 
 abbrev pub decreases-lines : goal.decreases-lines

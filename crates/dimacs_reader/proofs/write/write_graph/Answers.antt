@@ -31,7 +31,7 @@ loop-row-preserved g c =
       record {
         parts = gathered_more sent later.0 (pending c.loop-row.text) (pending c.make_room.new.self) (row_text row) (text_upto graph i) (pending c.push_row.new.self) so_far.parts later.1 c.push_row.ensures ∙ sym more;
         written = Writes_both sent later.0 _ _ _ Done so_far.written later.2;
-        count = (let h = so_far.count in omega (arith, c.make_room.ensures.count));
+        quiet = c.in-Done.ensures.quiet (λ e. cc) ∙ so_far.quiet;
       },
     )
 

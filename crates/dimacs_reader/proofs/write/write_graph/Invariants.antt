@@ -1,4 +1,4 @@
-use Rattle.std.proofs.Common.{◌≡◌, ℕ, ◌≤◌, List, ◌++◌}
+use Rattle.std.proofs.Common.{◌≡◌, ℕ, List, ◌++◌}
 use Rattle.road_io.specs.Sink.{Writes}
 use Rattle.road_io.specs.declared.writing.Put.TheVariants.{Done}
 use Rattle.dimacs_reader.specs.Pending.{pending}
@@ -9,5 +9,5 @@ abbrev pub invariant-loop-row : goal.invariant-loop-row
 invariant-loop-row g l = (sent : List ℕ) × record {
   parts : sent ++ pending l.text ≡ text_upto l.graph l.row-index;
   written : Writes sent (g.K.Sink.written l.initial.sink) (g.K.Sink.written l.sink) Done;
-  count : g.K.Sink.faults l.initial.sink ≤ g.K.Sink.faults l.sink;
+  quiet : g.K.Sink.faults l.sink ≡ g.K.Sink.faults l.initial.sink;
 }

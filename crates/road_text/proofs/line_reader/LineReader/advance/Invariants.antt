@@ -11,7 +11,8 @@ invariant-pieces g l = record {
   no_feed : HasNoFeed (take l.seen (held l.self));
   kept : IsKept l.initial.self l.self;
   told : IfTold (g.S.Source.left l.initial.source) (g.S.Source.left l.source) (λ (rest after : List ℕ). held l.initial.self ++ rest ≡ held l.self ++ after);
-  count : g.S.Source.faults l.initial.source ≤ g.S.Source.faults l.source;
+  count : g.S.Source.faults l.source ≡ g.S.Source.faults l.initial.source;
+  unpicked : g.S.Source.picked l.source ≡ g.S.Source.picked l.initial.source;
 }
 
 abbrev pub decreases-pieces : goal.decreases-pieces

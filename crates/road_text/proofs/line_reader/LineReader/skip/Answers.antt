@@ -57,6 +57,7 @@ pieces-preserved g c =
         empty = c.forget-in-None.ensures.empty;
         taken = record { count = (let h = so_far.taken.count in let k = c.fill.ensures.kept.budget_is in let l = c.forget-in-None.ensures.taken.count in omega (arith, length-append raw (held full))); longest = c.forget-in-None.ensures.taken.longest ∙ c.fill.ensures.kept.longest ∙ so_far.taken.longest };
         told = IfTold_both _ _ _ _ _ _ (λ (x y z : List ℕ) (p : held old ++ x ≡ raw ++ y) (q : _). passed_text old mid full raw so_far.empty x y z p q ∙ sym (append_assoc raw (held full) z)) so_far.told c.in-More.ensures.told;
-        count = (let h = so_far.count in let k = c.fill.ensures.count in omega arith);
+        count = c.in-More.ensures.quiet (λ e. cc) ∙ so_far.count;
+        unpicked = c.fill.ensures.unpicked ∙ so_far.unpicked;
       },
     )
