@@ -4,7 +4,7 @@ use Rattle.std.proofs.lemmas.List.{append-nil}
 use Rattle.road_model.specs.Graph.{Graph}
 use Rattle.road_io.specs.Told.{Told, IfTold}
 use Rattle.road_io.proofs.ToldLemmas.{IfTold_then, told_same}
-use Rattle.road_text.specs.Lines.{lines_of, whole_lines, whole_raw_lines}
+use Rattle.road_text.specs.Lines.{whole_lines, whole_raw_lines}
 use Rattle.line_front.specs.declared.requests.Parsed.{Parsed}
 use Rattle.dimacs_reader.specs.declared.fault.GraphFault.{GraphFault}
 use Rattle.dimacs_reader.specs.declared.fault.GraphError.{GraphError}
@@ -12,7 +12,7 @@ use Rattle.dimacs_reader.specs.declared.fault.GraphError.TheVariants as error
 use Rattle.dimacs_reader.specs.Gr.{gr_text}
 use Rattle.route_server.specs.declared.status.Status.{Status}
 use Rattle.route_server.specs.declared.status.Status.TheVariants as the
-use Rattle.route_server.specs.Asking.{NoQuit}
+use Rattle.route_server.specs.Asking.{lines_within, NoQuit}
 use Rattle.route_server.specs.Loading.{Loads, ends_as}
 use Rattle.route_server.specs.Serving.{IsReplies, Stops, Written}
 use Rattle.route_server.specs.Answering.{Idle, AnswersGraph, AnswersFile}
@@ -39,7 +39,7 @@ fault_unread (Ok g) text out = record {
 fault_unread (Err fault) text out = (tt, idle text out)
 
 starved_unread : (r : Result Graph GraphFault) (text out : List ℕ) → AnswersGraph r text text out out the.NoMemory
-starved_unread (Ok g) text out = record { some = []; others = lines_of text; parts = refl; written = nothing_written g out }
+starved_unread (Ok g) text out = record { some = []; others = lines_within text; parts = refl; written = nothing_written g out }
 starved_unread (Err fault) text out = (tt, idle text out)
 
 refused_unread : (r : Result Graph GraphFault) (fault : GraphFault) (text out : List ℕ) → r ≡ Err fault → AnswersGraph r text text out out (the.GraphRefused fault)

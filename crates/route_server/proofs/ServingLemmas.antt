@@ -5,7 +5,6 @@ use Rattle.road_model.specs.Graph.{Graph}
 use Rattle.road_io.specs.Told.{Told, IfTold}
 use Rattle.road_io.proofs.ToldLemmas.{IfTold_then, IfTold_both, told_same}
 use Rattle.road_text.specs.declared.line_reader.LineReader.{LineReader}
-use Rattle.road_text.specs.Lines.{lines_of}
 use Rattle.road_text.specs.Reader.{held, budget, IsFresh}
 use Rattle.road_text.specs.Behind.{IsBehind, IsRead, IsOver, IsBroken}
 use Rattle.road_text.proofs.BehindLemmas.{IsBehind-fresh}
@@ -89,7 +88,7 @@ pub ends_unread : (g : Graph) (a c : Option Told) → Ends g a a c c status.NoMe
 ends_unread g a c =
     told_same a _ (λ (text : List ℕ). told_same c _ (λ (out : List ℕ). record {
       some = [];
-      others = lines_of text;
+      others = lines_within text;
       parts = refl;
       written = nothing_written g out;
     }))
@@ -110,8 +109,12 @@ one_step a b b' c d P Q R f h k =
     IfTold_then c d (λ out now. P text rest out now) (λ out now. R text after out now) (λ (out now : List ℕ) (p' : P text rest out now). f text rest after out now p' q) p) h k
 
 -- the lines before, and those that follow
-more_parts : (reader : LineReader) (text rest : List ℕ) (before : List (List ℕ)) (at' : IsAt reader text rest before) → lines_of text ≡ before ++ lines_of (held reader ++ rest)
-more_parts reader text rest before at' = ap lines_of at'.is ∙ at'.lines (held reader ++ rest)
+more_parts : (reader : LineReader) (text rest : List ℕ) (before : List (List ℕ)) → IsAt reader text rest before → (others : List (List ℕ)) × (lines_within text ≡ before ++ others)
+more_parts reader text rest before at' = within_behind (budget reader) text (held reader ++ rest) before at'
+
+-- all of them
+last_parts : (text : List ℕ) (all : List (List ℕ)) → IsRead most_input text all → lines_within text ≡ all ++ []
+last_parts text all read = within_short text read.short ∙ read.lines ∙ sym (append-nil all)
 
 pub runs_more : (g : Graph) (old new : LineReader) (asked : Parsed) (a b b' c d d' : Option Told) → Runs g old a b c d → IfTold b b' (λ rest after. Goes old new rest after (next.More asked)) → IfTold d d' (λ out now. Serves g asked out now served.Written) → Runs g new a b' c d'
 runs_more g old new asked a b b' c d d' h k l =
@@ -147,9 +150,10 @@ ends_more_fault g old new asked a b b' c d d' h k l =
     both_steps a b b' c d d' (Running g old) (λ rest after. Goes old new rest after (next.More asked)) (λ out now. Serves g asked out now served.WriteFault) (λ text rest out now. Stops g text rest out now status.WriteFault)
     (λ (text rest after out mid now : List ℕ) (r : Running g old text rest out mid) (q : Goes old new rest after (next.More asked)) (s : IsServedFront g asked mid now).
     let one : OneMore new text after r.before asked = q text r.before r.at_line in
-    record { some = r.before ++ one.line ∷ []; others = lines_of (held new ++ after); parts = more_parts new text after (r.before ++ one.line ∷ []) one.behind; written = written_front g r.before one.line asked out mid now one.is r.unquit r.written s }) h k l
+    let follow = more_parts new text after (r.before ++ one.line ∷ []) one.behind in
+    record { some = r.before ++ one.line ∷ []; others = follow.0; parts = follow.1; written = written_front g r.before one.line asked out mid now one.is r.unquit r.written s }) h k l
 
-starved : (g : Graph) (text rest out mid now : List ℕ) (some others : List (List ℕ)) → lines_of text ≡ some ++ others → Written g some out mid → now ≡ mid → IsStarved g text rest out now
+starved : (g : Graph) (text rest out mid now : List ℕ) (some others : List (List ℕ)) → lines_within text ≡ some ++ others → Written g some out mid → now ≡ mid → IsStarved g text rest out now
 starved g text rest out mid now some others e w s =
     record { some = some; others = others; parts = e; written = written_same g some some out mid now refl s w }
 
@@ -157,7 +161,8 @@ pub ends_more_memory : (g : Graph) (old new : LineReader) (asked : Parsed) (a b 
 ends_more_memory g old new asked a b b' c d d' h k l =
     both_steps a b b' c d d' (Running g old) (λ rest after. Goes old new rest after (next.More asked)) (λ out now. Serves g asked out now served.NoMemory) (λ text rest out now. Stops g text rest out now status.NoMemory)
     (λ (text rest after out mid now : List ℕ) (r : Running g old text rest out mid) (q : Goes old new rest after (next.More asked)) (s : now ≡ mid).
-    starved g text after out mid now r.before (lines_of (held old ++ rest)) (more_parts old text rest r.before r.at_line) r.written s) h k l
+    let follow = more_parts old text rest r.before r.at_line in
+    starved g text after out mid now r.before follow.0 follow.1 r.written s) h k l
 
 -- all lines were read
 read_whole : (g : Graph) (text rest out now : List ℕ) (all : List (List ℕ)) → IsRead most_input text all → Written g all out now → IsDone g text rest out now
@@ -187,13 +192,14 @@ ends_last_fault g old new asked a b b' c d d' h k l =
     both_steps a b b' c d d' (Running g old) (λ rest after. Goes old new rest after (next.Last asked)) (λ out now. Serves g asked out now served.WriteFault) (λ text rest out now. Stops g text rest out now status.WriteFault)
     (λ (text rest after out mid now : List ℕ) (r : Running g old text rest out mid) (q : Goes old new rest after (next.Last asked)) (s : IsServedFront g asked mid now).
     let one : OneLast text r.before asked = q text r.before r.at_line in
-    record { some = r.before ++ one.line ∷ []; others = []; parts = one.read.lines ∙ sym (append-nil (r.before ++ one.line ∷ [])); written = written_front g r.before one.line asked out mid now one.is r.unquit r.written s }) h k l
+    record { some = r.before ++ one.line ∷ []; others = []; parts = last_parts text (r.before ++ one.line ∷ []) one.read; written = written_front g r.before one.line asked out mid now one.is r.unquit r.written s }) h k l
 
 pub ends_last_memory : (g : Graph) (old new : LineReader) (asked : Parsed) (a b b' c d d' : Option Told) → Runs g old a b c d → IfTold b b' (λ rest after. Goes old new rest after (next.Last asked)) → IfTold d d' (λ out now. Serves g asked out now served.NoMemory) → Ends g a b' c d' status.NoMemory
 ends_last_memory g old new asked a b b' c d d' h k l =
     both_steps a b b' c d d' (Running g old) (λ rest after. Goes old new rest after (next.Last asked)) (λ out now. Serves g asked out now served.NoMemory) (λ text rest out now. Stops g text rest out now status.NoMemory)
     (λ (text rest after out mid now : List ℕ) (r : Running g old text rest out mid) (q : Goes old new rest after (next.Last asked)) (s : now ≡ mid).
-    starved g text after out mid now r.before (lines_of (held old ++ rest)) (more_parts old text rest r.before r.at_line) r.written s) h k l
+    let follow = more_parts old text rest r.before r.at_line in
+    starved g text after out mid now r.before follow.0 follow.1 r.written s) h k l
 
 pub ends_end : (g : Graph) (old new : LineReader) (a b b' c d : Option Told) → Runs g old a b c d → IfTold b b' (λ rest after. Goes old new rest after next.End) → Ends g a b' c d status.Done
 ends_end g old new a b b' c d h k =

@@ -8,15 +8,15 @@
 --     ReadFault   every line that was read whole has its reply, and none of them ends the run
 --     InputLong   the text has more than 4294967296 bytes; every line that ends among these has its reply, and none of
 --                 them ends the run
---     WriteFault  a front of the replies to some of its first lines
---     NoMemory    the replies to some of its first lines
+--     WriteFault  a front of the replies to some of its first lines, which end among the first 4294967296 bytes
+--     NoMemory    the replies to some of its first lines, which end among these
 use Rattle.std.specs.Prelude.{◌≡◌, ◌<◌, ◌≤◌, ◌⊎◌, ℕ, false, List, [], ◌∷◌, ◌++◌, Option, None, length, take}
 use Rattle.road_model.specs.declared.answer.Plan.{Plan}
 use Rattle.road_model.specs.declared.request.Reply.{Reply}
 use Rattle.road_model.specs.declared.request.Reply.TheVariants as reply
 use Rattle.road_model.specs.declared.request.Request.{Request}
 use Rattle.road_model.specs.Graph.{Graph, arc_count}
-use Rattle.road_text.specs.Lines.{lines_of, whole_lines}
+use Rattle.road_text.specs.Lines.{whole_lines}
 use Rattle.line_front.specs.declared.requests.Parsed.{Parsed}
 use Rattle.line_front.specs.declared.requests.Parsed.TheVariants as parsed
 use Rattle.line_front.specs.Replies.{reply_text}
@@ -78,13 +78,13 @@ pub record IsOverlong (g : Graph) (text rest out now : List ℕ) : Type 0 where
 pub record IsUnwritten (g : Graph) (text rest out now : List ℕ) : Type 0 where
   pub some : List (List ℕ)
   pub others : List (List ℕ)
-  pub parts : lines_of text ≡ some ++ others
+  pub parts : lines_within text ≡ some ++ others
   pub written : WrittenFront g some out now
 
 pub record IsStarved (g : Graph) (text rest out now : List ℕ) : Type 0 where
   pub some : List (List ℕ)
   pub others : List (List ℕ)
-  pub parts : lines_of text ≡ some ++ others
+  pub parts : lines_within text ≡ some ++ others
   pub written : Written g some out now
 
 abbrev pub Stops : Graph → List ℕ → List ℕ → List ℕ → List ℕ → Status → Type 0
