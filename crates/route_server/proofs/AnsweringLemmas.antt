@@ -1,11 +1,9 @@
 -- A run whose graph couldn't be loaded.
 use Rattle.std.proofs.Common.{◌≡◌, ℕ, List, [], Option, Some, None, IfSome, Result, Ok, Err, refl, sym, subst}
-use Rattle.std.proofs.lemmas.List.{append-nil}
 use Rattle.road_model.specs.Graph.{Graph}
 use Rattle.road_io.specs.Told.{Told, IfTold}
 use Rattle.road_io.proofs.ToldLemmas.{IfTold_then, told_same}
 use Rattle.road_text.specs.Lines.{whole_lines, whole_raw_lines}
-use Rattle.line_front.specs.declared.requests.Parsed.{Parsed}
 use Rattle.dimacs_reader.specs.declared.fault.GraphFault.{GraphFault}
 use Rattle.dimacs_reader.specs.declared.fault.GraphError.{GraphError}
 use Rattle.dimacs_reader.specs.declared.fault.GraphError.TheVariants as error

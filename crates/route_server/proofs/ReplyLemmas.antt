@@ -1,5 +1,5 @@
 -- Replies to requests and lines.
-use Rattle.std.proofs.Common.{◌≡◌, ◌↔◌, Result, Ok, Err, ℕ, ◌+◌, ◌-◌, ◌≤◌, min, true, false, not, length, Option, Some, None, IsTrue, refl, sym, ap, ◌∙◌, subst, arith, inl, inr}
+use Rattle.std.proofs.Common.{◌≡◌, Result, Ok, Err, ℕ, ◌+◌, ◌-◌, ◌≤◌, min, true, false, length, Option, Some, IsTrue, refl, sym, ap, ◌∙◌, subst, arith, inl, inr}
 use Rattle.road_model.specs.declared.answer.PageSpan.{PageSpan}
 use Rattle.road_model.specs.declared.answer.Plan.{Plan}
 use Rattle.road_model.specs.declared.answer.Plan.TheVariants.{NoPath, Found}
