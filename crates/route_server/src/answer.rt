@@ -33,9 +33,9 @@ pub fn answer<F: Shelf, S: Source, K: Sink>(
         IsUnjudged told name.now (F.left shelf.new)
         ⊎ (IsAccepted (F.left shelf.old) name.now × HasRisen (S.faults input.old) (S.faults input.new))) }
     ensures long { result ≡ Status.InputLong → IfTold (S.left input.old) (S.left input.new) (λ text rest. IsLong text) }
-    ensures unwritten { IsRefusal result → K.written output.new ≡ K.written output.old }
-    ensures unstarted { F.faults shelf.new ≢ F.faults shelf.old → K.written output.new ≡ K.written output.old }
-    ensures unread { F.faults shelf.new ≢ F.faults shelf.old → S.left input.new ≡ S.left input.old }
+    ensures unwritten { IsRefusal result → output.new ≡ output.old }
+    ensures unstarted { F.faults shelf.new ≢ F.faults shelf.old → output.new ≡ output.old }
+    ensures unread { F.faults shelf.new ≢ F.faults shelf.old → input.new ≡ input.old }
     ensures complete { IsAccepted (F.left shelf.old) name.now →
         (HasRisen (F.faults shelf.old) (F.faults shelf.new) → ⊥) →
         (HasRisen (S.faults input.old) (S.faults input.new) → ⊥) →

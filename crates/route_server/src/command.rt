@@ -58,22 +58,17 @@ pub fn run<R: Threads + Sync, F: Shelf, S: Source, K: Sink>(
         IfTold (S.left input.old) (S.left input.new) (λ text rest.
         IfTold (K.written output.old) (K.written output.new) (λ out now.
         AnswersFile (told.files (name_of (map (λ w. string_bytes w) words.now))) text rest out now result))) }
-    ensures unread { command_of (map (λ w. string_bytes w) words.now) ≢ Some command.Answer →
-        S.left input.new ≡ S.left input.old }
 
-    // What isn't asked for stays as it is.
-    ensures unread_count { command_of (map (λ w. string_bytes w) words.now) ≢ Some command.Answer →
-        S.faults input.new ≡ S.faults input.old }
-    ensures unpicked { (HasFile (command_of (map (λ w. string_bytes w) words.now)) → ⊥) → F.left shelf.new ≡ F.left shelf.old }
-    ensures unpicked_count { (HasFile (command_of (map (λ w. string_bytes w) words.now)) → ⊥) → F.faults shelf.new ≡ F.faults shelf.old }
-    ensures unpicked_names { (HasFile (command_of (map (λ w. string_bytes w) words.now)) → ⊥) → F.picked shelf.new ≡ F.picked shelf.old }
+    // What the command has no use for stays as it is: no call was made of it.
+    ensures unread { command_of (map (λ w. string_bytes w) words.now) ≢ Some command.Answer → input.new ≡ input.old }
+    ensures unpicked { (HasFile (command_of (map (λ w. string_bytes w) words.now)) → ⊥) → shelf.new ≡ shelf.old }
     ensures named { HasFile (command_of (map (λ w. string_bytes w) words.now)) →
         F.picked shelf.new ≡ with_name (name_of (map (λ w. string_bytes w) words.now)) (F.picked shelf.old) }
-    ensures unwritten { IsRefusal result → K.written output.new ≡ K.written output.old }
+    ensures unwritten { IsRefusal result → output.new ≡ output.old }
     ensures ungiven { command_of (map (λ w. string_bytes w) words.now) ≢ Some command.Answer → IsEarly result →
-        K.written output.new ≡ K.written output.old }
-    ensures unstarted { F.faults shelf.new ≢ F.faults shelf.old → K.written output.new ≡ K.written output.old }
-    ensures unstarted_input { F.faults shelf.new ≢ F.faults shelf.old → S.left input.new ≡ S.left input.old }
+        output.new ≡ output.old }
+    ensures unstarted { F.faults shelf.new ≢ F.faults shelf.old → output.new ≡ output.old }
+    ensures unstarted_input { F.faults shelf.new ≢ F.faults shelf.old → input.new ≡ input.old }
 
     // Why it ends, whatever stands written.
     ensures refused_alone { (fault : GraphFault) → result ≡ Status.GraphRefused fault → HasFile (command_of (map (λ w. string_bytes w) words.now)) }

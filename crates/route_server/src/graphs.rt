@@ -50,8 +50,8 @@ pub fn check<F: Shelf, K: Sink>(alloc: Global, name: &str, shelf: &mut F, output
         IfSome (F.left shelf.old) (λ told. HasFault told name.now fault) }
     ensures first_fault { result ≡ Status.ReadFault →
         IfSome (F.left shelf.old) (λ told. IsUnjudged told name.now (F.left shelf.new)) }
-    ensures unwritten { IsEarly result → K.written output.new ≡ K.written output.old }
-    ensures unstarted { F.faults shelf.new ≢ F.faults shelf.old → K.written output.new ≡ K.written output.old }
+    ensures unwritten { IsEarly result → output.new ≡ output.old }
+    ensures unstarted { F.faults shelf.new ≢ F.faults shelf.old → output.new ≡ output.old }
     ensures complete { IsAccepted (F.left shelf.old) name.now →
         (HasRisen (F.faults shelf.old) (F.faults shelf.new) → ⊥) →
         (HasRisen (K.faults output.old) (K.faults output.new) → ⊥) → IsWhole result }
@@ -84,8 +84,8 @@ pub fn print<F: Shelf, K: Sink>(alloc: Global, name: &str, shelf: &mut F, output
         IfSome (F.left shelf.old) (λ told. HasFault told name.now fault) }
     ensures first_fault { result ≡ Status.ReadFault →
         IfSome (F.left shelf.old) (λ told. IsUnjudged told name.now (F.left shelf.new)) }
-    ensures unwritten { IsEarly result → K.written output.new ≡ K.written output.old }
-    ensures unstarted { F.faults shelf.new ≢ F.faults shelf.old → K.written output.new ≡ K.written output.old }
+    ensures unwritten { IsEarly result → output.new ≡ output.old }
+    ensures unstarted { F.faults shelf.new ≢ F.faults shelf.old → output.new ≡ output.old }
     ensures complete { IsAccepted (F.left shelf.old) name.now →
         (HasRisen (F.faults shelf.old) (F.faults shelf.new) → ⊥) →
         (HasRisen (K.faults output.old) (K.faults output.new) → ⊥) → IsWhole result }

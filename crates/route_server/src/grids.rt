@@ -25,7 +25,7 @@ fn write<K: Sink>(graph: &GraphFile, output: &mut K) -> Status
     ensures inside { result ≡ Status.InputLong → ⊥ }
     ensures accepted { (fault : GraphFault) → result ≡ Status.GraphRefused fault → ⊥ }
     ensures read { result ≡ Status.ReadFault → ⊥ }
-    ensures unwritten { IsEarly result → K.written output.new ≡ K.written output.old }
+    ensures unwritten { IsEarly result → output.new ≡ output.old }
     ensures complete { (HasRisen (K.faults output.old) (K.faults output.new) → ⊥) → IsWhole result }
     ensures count { K.faults output.old ≤ K.faults output.new }
     ensures cause { result ≡ Status.WriteFault → HasRisen (K.faults output.old) (K.faults output.new) }
@@ -44,7 +44,7 @@ pub fn make<K: Sink>(alloc: Global, grid: Grid, output: &mut K) -> Status
     ensures inside { result ≡ Status.InputLong → ⊥ }
     ensures accepted { (fault : GraphFault) → result ≡ Status.GraphRefused fault → ⊥ }
     ensures read { result ≡ Status.ReadFault → ⊥ }
-    ensures unwritten { IsEarly result → K.written output.new ≡ K.written output.old }
+    ensures unwritten { IsEarly result → output.new ≡ output.old }
     ensures complete { (HasRisen (K.faults output.old) (K.faults output.new) → ⊥) → IsWhole result }
     ensures write_count { K.faults output.old ≤ K.faults output.new }
     ensures write_cause { result ≡ Status.WriteFault → HasRisen (K.faults output.old) (K.faults output.new) }
@@ -67,7 +67,7 @@ pub fn survey<K: Sink>(alloc: Global, grid: Grid, queries: u32, output: &mut K) 
     ensures inside { result ≡ Status.InputLong → ⊥ }
     ensures accepted { (fault : GraphFault) → result ≡ Status.GraphRefused fault → ⊥ }
     ensures read { result ≡ Status.ReadFault → ⊥ }
-    ensures unwritten { IsEarly result → K.written output.new ≡ K.written output.old }
+    ensures unwritten { IsEarly result → output.new ≡ output.old }
     ensures complete { (HasRisen (K.faults output.old) (K.faults output.new) → ⊥) → IsWhole result }
     ensures write_count { K.faults output.old ≤ K.faults output.new }
     ensures write_cause { result ≡ Status.WriteFault → HasRisen (K.faults output.old) (K.faults output.new) }
