@@ -2,8 +2,11 @@
 //! error how it ended.
 #![tactic(auto)]
 
+ghost use Rattle.std.specs.Prelude.{◌≡◌, ◌≢◌};
+
 use road_io::{FileShelf, StdinSource, StdoutSink};
 use route_server::{Status, run};
+use std::io::ErrorKind;
 use std::process::ExitCode;
 use std::{env, io};
 
@@ -16,6 +19,17 @@ fn words(rt: &HostRuntime) -> io::Result<Vec<String>> {
     Ok(words)
 }
 
+/// How a run ends whose words couldn't be read: a word that isn't UTF-8 is no word of a command.
+fn unread(kind: ErrorKind) -> Status
+    ensures memory { kind ≡ ErrorKind.OutOfMemory → result ≡ Status.NoMemory }
+    ensures usage { kind ≢ ErrorKind.OutOfMemory → result ≡ Status.Usage }
+{
+    match kind {
+        ErrorKind::OutOfMemory => Status::NoMemory,
+        _ => Status::Usage,
+    }
+}
+
 fn main(rt: HostRuntime) -> ExitCode {
     let status = match words(&rt) {
         Ok(words) => {
@@ -24,7 +38,7 @@ fn main(rt: HostRuntime) -> ExitCode {
             let mut output = StdoutSink::new(&rt);
             run(&rt, rt.alloc(), &words, &mut shelf, &mut input, &mut output)
         }
-        Err(_) => Status::Usage,
+        Err(error) => unread(error.kind()),
     };
     if status != Status::Done {
         let _ = eprintln!(rt; "road: {status}");

@@ -72,3 +72,39 @@ fn a_read_that_fails_in_the_middle_of_a_line_loses_the_line(rt: HostRuntime) -> 
     };
     check(&rt, rt.alloc(), &row, 1)
 }
+
+#[test]
+fn the_first_call_that_fails_ends_the_run(rt: HostRuntime) -> Result<(), Fail> {
+    let first: &[u64] = &[0];
+    let second: &[u64] = &[1];
+    let third: &[u64] = &[2];
+    let rows: [(&str, &[u64], &[u64], &[u64], Status); 12] = [
+        ("check a.gr", first, NEVER, NEVER, Status::ReadFault),
+        ("check a.gr", second, NEVER, NEVER, Status::ReadFault),
+        ("print a.gr", second, NEVER, NEVER, Status::ReadFault),
+        ("print a.gr", third, NEVER, NEVER, Status::ReadFault),
+        ("answer a.gr", first, NEVER, NEVER, Status::ReadFault),
+        ("answer a.gr", second, NEVER, NEVER, Status::ReadFault),
+        ("answer a.gr", third, NEVER, NEVER, Status::ReadFault),
+        ("answer a.gr", NEVER, first, NEVER, Status::ReadFault),
+        ("answer a.gr", NEVER, NEVER, first, Status::WriteFault),
+        // No call is made that could fail.
+        ("", first, first, first, Status::Usage),
+        ("answer", first, first, first, Status::Usage),
+        ("chek a.gr", first, first, first, Status::Usage),
+    ];
+    for (words, shelf_fails, input_fails, output_fails, status) in rows {
+        let row = Run {
+            words,
+            file: SMALL,
+            input: b"route 1 6\n",
+            shelf_fails,
+            input_fails,
+            output_fails,
+            status,
+            output: b"",
+        };
+        check(&rt, rt.alloc(), &row, 0)?;
+    }
+    Ok(())
+}

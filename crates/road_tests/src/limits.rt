@@ -19,6 +19,8 @@ impl Source for Endless {
 
     ghost faults = { λ _. 0 };
 
+    ghost picked = { λ _. None };
+
     fn read(&mut self, room: &mut [u8]) -> Read {
         room.fill(self.byte);
         Read::Took(room.len())

@@ -5,3 +5,4 @@ pub mod ServingLemmas
 pub mod AnsweringLemmas
 pub mod ReplyLemmas
 pub mod SendingLemmas
+pub mod ReadingLemmas

@@ -10,3 +10,4 @@ pub mod Loading
 pub mod Answering
 pub mod Buffers
 pub mod Desks
+pub mod Causes

@@ -1,9 +1,12 @@
 //! The command that answers requests.
 
-ghost use Rattle.std.specs.Prelude.{◌≡◌, ◌≤◌, ◌⊎◌, IfSome};
+ghost use Rattle.std.specs.Prelude.{◌≡◌, ◌≢◌, ◌≤◌, ◌⊎◌, IfSome};
 ghost use Rattle.road_io.specs.Told.{IfTold};
 ghost use Rattle.road_io.specs.Count.{HasRisen};
+ghost use Rattle.road_io.specs.Shelf.{with_name};
+ghost use Rattle.dimacs_reader.specs.declared.fault.GraphFault.{GraphFault};
 ghost use Rattle.route_server.specs.Answering.{AnswersFile};
+ghost use Rattle.route_server.specs.Causes.{HasFault, IsAccepted, IsLong, IsRefusal, IsUnjudged, IsWhole};
 
 use crate::load::{ends_as, load};
 use crate::serve::serve;
@@ -24,6 +27,23 @@ pub fn answer<F: Shelf, S: Source, K: Sink>(
         IfTold (K.written output.old) (K.written output.new) (λ out now.
         AnswersFile (told.files name.now) text rest out now result))) }
     ensures known { result ≡ Status.Usage → ⊥ }
+    ensures refused { (fault : GraphFault) → result ≡ Status.GraphRefused fault →
+        IfSome (F.left shelf.old) (λ told. HasFault told name.now fault) }
+    ensures first_fault { result ≡ Status.ReadFault → IfSome (F.left shelf.old) (λ told.
+        IsUnjudged told name.now (F.left shelf.new)
+        ⊎ (IsAccepted (F.left shelf.old) name.now × HasRisen (S.faults input.old) (S.faults input.new))) }
+    ensures long { result ≡ Status.InputLong → IfTold (S.left input.old) (S.left input.new) (λ text rest. IsLong text) }
+    ensures unwritten { IsRefusal result → output.new ≡ output.old }
+    ensures unstarted { F.faults shelf.new ≢ F.faults shelf.old → output.new ≡ output.old }
+    ensures unread { F.faults shelf.new ≢ F.faults shelf.old → input.new ≡ input.old }
+    ensures complete { IsAccepted (F.left shelf.old) name.now →
+        (HasRisen (F.faults shelf.old) (F.faults shelf.new) → ⊥) →
+        (HasRisen (S.faults input.old) (S.faults input.new) → ⊥) →
+        (HasRisen (K.faults output.old) (K.faults output.new) → ⊥) → IsWhole result }
+    ensures named { F.picked shelf.new ≡ with_name name.now (F.picked shelf.old) }
+    ensures shelf_quiet { result ≢ Status.ReadFault → F.faults shelf.new ≡ F.faults shelf.old }
+    ensures input_quiet { result ≢ Status.ReadFault → S.faults input.new ≡ S.faults input.old }
+    ensures output_quiet { result ≢ Status.WriteFault → K.faults output.new ≡ K.faults output.old }
     ensures read_cause { result ≡ Status.ReadFault →
         HasRisen (F.faults shelf.old) (F.faults shelf.new) ⊎ HasRisen (S.faults input.old) (S.faults input.new) }
     ensures write_cause { result ≡ Status.WriteFault → HasRisen (K.faults output.old) (K.faults output.new) }

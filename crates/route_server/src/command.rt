@@ -3,10 +3,13 @@
 ghost use Rattle.std.specs.Prelude.{◌≡◌, ◌≢◌, ◌↔◌, ◌≤◌, ◌⊎◌, ℕ, None, Some, IfSome, map, string_bytes};
 ghost use Rattle.road_io.specs.Told.{IfTold};
 ghost use Rattle.road_io.specs.Count.{HasRisen};
+ghost use Rattle.road_io.specs.Shelf.{with_name};
+ghost use Rattle.dimacs_reader.specs.declared.fault.GraphFault.{GraphFault};
 ghost use Rattle.route_server.specs.Words.{command_of, name_of};
 ghost use Rattle.route_server.specs.Answering.{AnswersFile};
 ghost use Rattle.route_server.specs.Giving.{Gives, GivesOf, IsCheck, IsPrint};
 ghost use Rattle.route_server.specs.Grids.{IsMade, IsSurveyed};
+ghost use Rattle.route_server.specs.Causes.{HasFault, HasFile, IsAccepted, IsEarly, IsLong, IsReady, IsRefusal, IsUnjudged, IsWhole};
 ghost use Rattle.route_server.specs.declared.words.Command.TheVariants as command;
 ghost use Rattle.route_server.specs.declared.words.Grid.{Grid as Made};
 
@@ -55,16 +58,43 @@ pub fn run<R: Threads + Sync, F: Shelf, S: Source, K: Sink>(
         IfTold (S.left input.old) (S.left input.new) (λ text rest.
         IfTold (K.written output.old) (K.written output.new) (λ out now.
         AnswersFile (told.files (name_of (map (λ w. string_bytes w) words.now))) text rest out now result))) }
-    ensures unread { command_of (map (λ w. string_bytes w) words.now) ≢ Some command.Answer →
-        S.left input.new ≡ S.left input.old }
 
-    // Faults come from outside alone.
+    // What the command has no use for stays as it is: no call was made of it.
+    ensures unread { command_of (map (λ w. string_bytes w) words.now) ≢ Some command.Answer → input.new ≡ input.old }
+    ensures unpicked { (HasFile (command_of (map (λ w. string_bytes w) words.now)) → ⊥) → shelf.new ≡ shelf.old }
+    ensures named { HasFile (command_of (map (λ w. string_bytes w) words.now)) →
+        F.picked shelf.new ≡ with_name (name_of (map (λ w. string_bytes w) words.now)) (F.picked shelf.old) }
+    ensures unwritten { IsRefusal result → output.new ≡ output.old }
+    ensures ungiven { command_of (map (λ w. string_bytes w) words.now) ≢ Some command.Answer → IsEarly result →
+        output.new ≡ output.old }
+    ensures unstarted { F.faults shelf.new ≢ F.faults shelf.old → output.new ≡ output.old }
+    ensures unstarted_input { F.faults shelf.new ≢ F.faults shelf.old → input.new ≡ input.old }
+
+    // Why it ends, whatever stands written.
+    ensures refused_alone { (fault : GraphFault) → result ≡ Status.GraphRefused fault → HasFile (command_of (map (λ w. string_bytes w) words.now)) }
+    ensures refused { (fault : GraphFault) → result ≡ Status.GraphRefused fault →
+        IfSome (F.left shelf.old) (λ told. HasFault told (name_of (map (λ w. string_bytes w) words.now)) fault) }
+    ensures first_fault { result ≡ Status.ReadFault → IfSome (F.left shelf.old) (λ told.
+        IsUnjudged told (name_of (map (λ w. string_bytes w) words.now)) (F.left shelf.new)
+        ⊎ (IsAccepted (F.left shelf.old) (name_of (map (λ w. string_bytes w) words.now))
+        × HasRisen (S.faults input.old) (S.faults input.new))) }
+    ensures answers_alone { result ≡ Status.InputLong → command_of (map (λ w. string_bytes w) words.now) ≡ Some command.Answer }
+    ensures long { result ≡ Status.InputLong → IfTold (S.left input.old) (S.left input.new) (λ text rest. IsLong text) }
+    ensures complete { IsReady (command_of (map (λ w. string_bytes w) words.now)) (F.left shelf.old) (name_of (map (λ w. string_bytes w) words.now)) →
+        (HasRisen (F.faults shelf.old) (F.faults shelf.new) → ⊥) →
+        (HasRisen (S.faults input.old) (S.faults input.new) → ⊥) →
+        (HasRisen (K.faults output.old) (K.faults output.new) → ⊥) → IsWhole result }
+
+    // Faults come from outside alone, and end the run.
     ensures read_cause { result ≡ Status.ReadFault →
         HasRisen (F.faults shelf.old) (F.faults shelf.new) ⊎ HasRisen (S.faults input.old) (S.faults input.new) }
     ensures write_cause { result ≡ Status.WriteFault → HasRisen (K.faults output.old) (K.faults output.new) }
     ensures shelf_count { F.faults shelf.old ≤ F.faults shelf.new }
     ensures input_count { S.faults input.old ≤ S.faults input.new }
     ensures output_count { K.faults output.old ≤ K.faults output.new }
+    ensures shelf_quiet { result ≢ Status.ReadFault → F.faults shelf.new ≡ F.faults shelf.old }
+    ensures input_quiet { result ≢ Status.ReadFault → S.faults input.new ≡ S.faults input.old }
+    ensures output_quiet { result ≢ Status.WriteFault → K.faults output.new ≡ K.faults output.old }
 {
     let Some(command) = read_command(words) else {
         return Status::Usage;

@@ -1,10 +1,12 @@
 //! The commands that say what a graph file holds.
 
-ghost use Rattle.std.specs.Prelude.{◌≡◌, ◌≤◌, IfOk, IfSome};
+ghost use Rattle.std.specs.Prelude.{◌≡◌, ◌≢◌, ◌≤◌, IfOk, IfSome};
 ghost use Rattle.road_io.specs.Told.{IfTold};
 ghost use Rattle.road_io.specs.Count.{HasRisen};
-ghost use Rattle.road_model.specs.Graph.{Graph};
+ghost use Rattle.road_io.specs.Shelf.{with_name};
+ghost use Rattle.dimacs_reader.specs.declared.fault.GraphFault.{GraphFault};
 ghost use Rattle.route_server.specs.Giving.{GivesOf, IsCheck, IsPrint, check_text, ends_by};
+ghost use Rattle.route_server.specs.Causes.{HasFault, IsAccepted, IsEarly, IsUnjudged, IsWhole};
 
 use crate::load::{ends_as, read_named};
 use crate::status::Status;
@@ -43,10 +45,23 @@ pub fn check<F: Shelf, K: Sink>(alloc: Global, name: &str, shelf: &mut F, output
         IfTold (K.written output.old) (K.written output.new) (λ out now.
         GivesOf IsCheck (told.files name.now) out now result)) }
     ensures known { result ≡ Status.Usage → ⊥ }
+    ensures inside { result ≡ Status.InputLong → ⊥ }
+    ensures refused { (fault : GraphFault) → result ≡ Status.GraphRefused fault →
+        IfSome (F.left shelf.old) (λ told. HasFault told name.now fault) }
+    ensures first_fault { result ≡ Status.ReadFault →
+        IfSome (F.left shelf.old) (λ told. IsUnjudged told name.now (F.left shelf.new)) }
+    ensures unwritten { IsEarly result → output.new ≡ output.old }
+    ensures unstarted { F.faults shelf.new ≢ F.faults shelf.old → output.new ≡ output.old }
+    ensures complete { IsAccepted (F.left shelf.old) name.now →
+        (HasRisen (F.faults shelf.old) (F.faults shelf.new) → ⊥) →
+        (HasRisen (K.faults output.old) (K.faults output.new) → ⊥) → IsWhole result }
+    ensures named { F.picked shelf.new ≡ with_name name.now (F.picked shelf.old) }
     ensures read_count { F.faults shelf.old ≤ F.faults shelf.new }
     ensures read_cause { result ≡ Status.ReadFault → HasRisen (F.faults shelf.old) (F.faults shelf.new) }
+    ensures read_quiet { result ≢ Status.ReadFault → F.faults shelf.new ≡ F.faults shelf.old }
     ensures write_count { K.faults output.old ≤ K.faults output.new }
     ensures write_cause { result ≡ Status.WriteFault → HasRisen (K.faults output.old) (K.faults output.new) }
+    ensures write_quiet { result ≢ Status.WriteFault → K.faults output.new ≡ K.faults output.old }
 {
     let graph = match read_named(alloc, name, shelf) {
         Ok(graph) => graph,
@@ -64,10 +79,23 @@ pub fn print<F: Shelf, K: Sink>(alloc: Global, name: &str, shelf: &mut F, output
         IfTold (K.written output.old) (K.written output.new) (λ out now.
         GivesOf IsPrint (told.files name.now) out now result)) }
     ensures known { result ≡ Status.Usage → ⊥ }
+    ensures inside { result ≡ Status.InputLong → ⊥ }
+    ensures refused { (fault : GraphFault) → result ≡ Status.GraphRefused fault →
+        IfSome (F.left shelf.old) (λ told. HasFault told name.now fault) }
+    ensures first_fault { result ≡ Status.ReadFault →
+        IfSome (F.left shelf.old) (λ told. IsUnjudged told name.now (F.left shelf.new)) }
+    ensures unwritten { IsEarly result → output.new ≡ output.old }
+    ensures unstarted { F.faults shelf.new ≢ F.faults shelf.old → output.new ≡ output.old }
+    ensures complete { IsAccepted (F.left shelf.old) name.now →
+        (HasRisen (F.faults shelf.old) (F.faults shelf.new) → ⊥) →
+        (HasRisen (K.faults output.old) (K.faults output.new) → ⊥) → IsWhole result }
+    ensures named { F.picked shelf.new ≡ with_name name.now (F.picked shelf.old) }
     ensures read_count { F.faults shelf.old ≤ F.faults shelf.new }
     ensures read_cause { result ≡ Status.ReadFault → HasRisen (F.faults shelf.old) (F.faults shelf.new) }
+    ensures read_quiet { result ≢ Status.ReadFault → F.faults shelf.new ≡ F.faults shelf.old }
     ensures write_count { K.faults output.old ≤ K.faults output.new }
     ensures write_cause { result ≡ Status.WriteFault → HasRisen (K.faults output.old) (K.faults output.new) }
+    ensures write_quiet { result ≢ Status.WriteFault → K.faults output.new ≡ K.faults output.old }
 {
     match read_named(alloc, name, shelf) {
         Ok(graph) => ends_by(write_graph(output, &graph)),

@@ -1,11 +1,13 @@
 //! The commands over grids that a generator makes.
 
-ghost use Rattle.std.specs.Prelude.{◌≡◌, ◌≤◌};
+ghost use Rattle.std.specs.Prelude.{◌≡◌, ◌≢◌, ◌≤◌};
 ghost use Rattle.road_io.specs.Told.{IfTold};
 ghost use Rattle.road_io.specs.Count.{HasRisen};
+ghost use Rattle.dimacs_reader.specs.declared.fault.GraphFault.{GraphFault};
 ghost use Rattle.grid_maker.specs.Grid.{IsSide};
 ghost use Rattle.route_server.specs.Giving.{Gives, IsPrint};
 ghost use Rattle.route_server.specs.Grids.{IsMade, IsSurveyed};
+ghost use Rattle.route_server.specs.Causes.{IsEarly, IsWhole};
 
 use crate::graphs::ends_by;
 use crate::status::Status;
@@ -20,9 +22,14 @@ fn write<K: Sink>(graph: &GraphFile, output: &mut K) -> Status
     ensures gives { IfTold (K.written output.old) (K.written output.new) (λ out now.
         Gives (IsPrint graph.now) out now result) }
     ensures known { result ≡ Status.Usage → ⊥ }
+    ensures inside { result ≡ Status.InputLong → ⊥ }
+    ensures accepted { (fault : GraphFault) → result ≡ Status.GraphRefused fault → ⊥ }
     ensures read { result ≡ Status.ReadFault → ⊥ }
+    ensures unwritten { IsEarly result → output.new ≡ output.old }
+    ensures complete { (HasRisen (K.faults output.old) (K.faults output.new) → ⊥) → IsWhole result }
     ensures count { K.faults output.old ≤ K.faults output.new }
     ensures cause { result ≡ Status.WriteFault → HasRisen (K.faults output.old) (K.faults output.new) }
+    ensures quiet { result ≢ Status.WriteFault → K.faults output.new ≡ K.faults output.old }
 {
     ends_by(write_graph(output, graph))
 }
@@ -34,9 +41,14 @@ pub fn make<K: Sink>(alloc: Global, grid: Grid, output: &mut K) -> Status
     ensures gives { IfTold (K.written output.old) (K.written output.new) (λ out now.
         Gives (IsMade grid) out now result) }
     ensures known { result ≡ Status.Usage → ⊥ }
+    ensures inside { result ≡ Status.InputLong → ⊥ }
+    ensures accepted { (fault : GraphFault) → result ≡ Status.GraphRefused fault → ⊥ }
     ensures read { result ≡ Status.ReadFault → ⊥ }
+    ensures unwritten { IsEarly result → output.new ≡ output.old }
+    ensures complete { (HasRisen (K.faults output.old) (K.faults output.new) → ⊥) → IsWhole result }
     ensures write_count { K.faults output.old ≤ K.faults output.new }
     ensures write_cause { result ≡ Status.WriteFault → HasRisen (K.faults output.old) (K.faults output.new) }
+    ensures write_quiet { result ≢ Status.WriteFault → K.faults output.new ≡ K.faults output.old }
 {
     match grid_maker::make(alloc, grid.seed, grid.width, grid.height) {
         Ok((graph, _)) => write(&graph, output),
@@ -52,9 +64,14 @@ pub fn survey<K: Sink>(alloc: Global, grid: Grid, queries: u32, output: &mut K) 
     ensures gives { IfTold (K.written output.old) (K.written output.new) (λ out now.
         Gives (IsSurveyed grid queries) out now result) }
     ensures known { result ≡ Status.Usage → ⊥ }
+    ensures inside { result ≡ Status.InputLong → ⊥ }
+    ensures accepted { (fault : GraphFault) → result ≡ Status.GraphRefused fault → ⊥ }
     ensures read { result ≡ Status.ReadFault → ⊥ }
+    ensures unwritten { IsEarly result → output.new ≡ output.old }
+    ensures complete { (HasRisen (K.faults output.old) (K.faults output.new) → ⊥) → IsWhole result }
     ensures write_count { K.faults output.old ≤ K.faults output.new }
     ensures write_cause { result ≡ Status.WriteFault → HasRisen (K.faults output.old) (K.faults output.new) }
+    ensures write_quiet { result ≢ Status.WriteFault → K.faults output.new ≡ K.faults output.old }
 {
     let Ok(summary) = grid_survey::survey(alloc, grid.seed, grid.width, grid.height, queries) else {
         return Status::NoMemory;

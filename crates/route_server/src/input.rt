@@ -1,6 +1,6 @@
 //! The request lines of an input, one at a time.
 
-ghost use Rattle.std.specs.Prelude.{◌≡◌, ◌<◌, ◌≤◌, ◌++◌};
+ghost use Rattle.std.specs.Prelude.{◌≡◌, ◌≢◌, ◌<◌, ◌≤◌, ◌++◌};
 ghost use Rattle.road_io.specs.Told.{IfTold};
 ghost use Rattle.road_io.specs.Count.{HasRisen};
 ghost use Rattle.road_text.specs.Reader.{held, budget};
@@ -37,6 +37,7 @@ pub fn next_line<S: Source>(reader: &mut LineReader, input: &mut S) -> NextLine
     ensures longest { reader.new.longest ≡ 1024 }
     ensures count { S.faults input.old ≤ S.faults input.new }
     ensures cause { result ≡ NextLine.Failed → HasRisen (S.faults input.old) (S.faults input.new) }
+    ensures quiet { result ≢ NextLine.Failed → S.faults input.new ≡ S.faults input.old }
 {
     match reader.advance(input) {
         Advance::Whole => NextLine::More(read_request(reader.line(), Role::Reader)),

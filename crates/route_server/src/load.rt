@@ -1,8 +1,10 @@
 //! Graph files.
 
-ghost use Rattle.std.specs.Prelude.{◌≡◌, ◌≤◌, Err, IfSome};
+ghost use Rattle.std.specs.Prelude.{◌≡◌, ◌≢◌, ◌≤◌, Err, IfSome};
 ghost use Rattle.road_io.specs.Count.{HasRisen};
+ghost use Rattle.road_io.specs.Shelf.{with_name};
 ghost use Rattle.route_server.specs.Loading.{Loads, ends_as};
+ghost use Rattle.route_server.specs.Causes.{IsUnjudged};
 
 use crate::status::Status;
 use dimacs_reader::{GraphError, read_graph};
@@ -20,6 +22,10 @@ pub fn read_named<F: Shelf>(
     ensures loads { IfSome (F.left shelf.old) (λ told. Loads (told.files name.now) result) }
     ensures count { F.faults shelf.old ≤ F.faults shelf.new }
     ensures cause { result ≡ Err GraphError.ReadFault → HasRisen (F.faults shelf.old) (F.faults shelf.new) }
+    ensures quiet { result ≢ Err GraphError.ReadFault → F.faults shelf.new ≡ F.faults shelf.old }
+    ensures first_fault { result ≡ Err GraphError.ReadFault → IfSome (F.left shelf.old) (λ told.
+        IsUnjudged told name.now (F.left shelf.new)) }
+    ensures named { F.picked shelf.new ≡ with_name name.now (F.picked shelf.old) }
 {
     match shelf.pick(name) {
         Picked::Ready => read_graph(alloc, shelf),
@@ -32,6 +38,10 @@ pub fn load<F: Shelf>(alloc: Global, name: &str, shelf: &mut F) -> Result<Star, 
     ensures loads { IfSome (F.left shelf.old) (λ told. Loads (told.files name.now) result) }
     ensures count { F.faults shelf.old ≤ F.faults shelf.new }
     ensures cause { result ≡ Err GraphError.ReadFault → HasRisen (F.faults shelf.old) (F.faults shelf.new) }
+    ensures quiet { result ≢ Err GraphError.ReadFault → F.faults shelf.new ≡ F.faults shelf.old }
+    ensures first_fault { result ≡ Err GraphError.ReadFault → IfSome (F.left shelf.old) (λ told.
+        IsUnjudged told name.now (F.left shelf.new)) }
+    ensures named { F.picked shelf.new ≡ with_name name.now (F.picked shelf.old) }
 {
     let graph = match read_named(alloc, name, shelf) {
         Ok(graph) => graph,

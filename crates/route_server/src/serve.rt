@@ -1,6 +1,6 @@
 //! The loop over request lines.
 
-ghost use Rattle.std.specs.Prelude.{◌≡◌, ◌≤◌};
+ghost use Rattle.std.specs.Prelude.{◌≡◌, ◌≢◌, ◌≤◌, false};
 ghost use Rattle.road_io.specs.Told.{IfTold};
 ghost use Rattle.road_io.specs.Count.{HasRisen};
 ghost use Rattle.road_model.specs.Dist.{HaveSameDist};
@@ -8,6 +8,8 @@ ghost use Rattle.line_front.specs.Replies.{HasItems};
 ghost use Rattle.route_server.specs.Desks.{IsReadersLine};
 ghost use Rattle.route_server.specs.Serving.{Stops, opening};
 ghost use Rattle.route_server.specs.Served.{Serves, Sends};
+ghost use Rattle.route_server.specs.Asking.{is_quit};
+ghost use Rattle.route_server.specs.Causes.{IsLong, IsRefusal, IsWhole};
 
 use crate::answering::{Answer, Said, say};
 use crate::gathered::Gathered;
@@ -41,6 +43,7 @@ fn send<K: Sink>(answer: &Answer, gathered: &mut Gathered, output: &mut K) -> Se
         (λ out now. Sends answer.now out now result) }
     ensures count { K.faults output.old ≤ K.faults output.new }
     ensures cause { result ≡ Served.WriteFault → HasRisen (K.faults output.old) (K.faults output.new) }
+    ensures quiet { result ≢ Served.WriteFault → K.faults output.new ≡ K.faults output.old }
 {
     gathered.clear();
     match write_reply(gathered, &answer.reply, answer.shown.as_ref()) {
@@ -68,6 +71,8 @@ fn serve_one<O: Oracle, K: Sink>(
     ensures same { O.graph oracle.new ≡ O.graph oracle.old }
     ensures count { K.faults output.old ≤ K.faults output.new }
     ensures cause { result ≡ Served.WriteFault → HasRisen (K.faults output.old) (K.faults output.new) }
+    ensures quiet { result ≢ Served.WriteFault → K.faults output.new ≡ K.faults output.old }
+    ensures unquit { result ≡ Served.Written → is_quit asked.now ≡ false }
 {
     match say(alloc, star, oracle, asked) {
         Said::Nothing => Served::Written,
@@ -89,10 +94,16 @@ pub fn serve<S: Source, K: Sink>(
         IfTold (K.written output.old) (K.written output.new) (λ out now.
         Stops star.now text rest out now result)) }
     ensures known { result ≡ Status.Usage → ⊥ }
+    ensures unrefused { IsRefusal result → ⊥ }
+    ensures long { result ≡ Status.InputLong → IfTold (S.left input.old) (S.left input.new) (λ text rest. IsLong text) }
+    ensures complete { (HasRisen (S.faults input.old) (S.faults input.new) → ⊥) →
+        (HasRisen (K.faults output.old) (K.faults output.new) → ⊥) → IsWhole result }
     ensures read_count { S.faults input.old ≤ S.faults input.new }
     ensures read_cause { result ≡ Status.ReadFault → HasRisen (S.faults input.old) (S.faults input.new) }
+    ensures read_quiet { result ≢ Status.ReadFault → S.faults input.new ≡ S.faults input.old }
     ensures write_count { K.faults output.old ≤ K.faults output.new }
     ensures write_cause { result ≡ Status.WriteFault → HasRisen (K.faults output.old) (K.faults output.new) }
+    ensures write_quiet { result ≢ Status.WriteFault → K.faults output.new ≡ K.faults output.old }
 {
     let _limits = star.graph();
     let Ok(mut oracle) = PlainOracle::new(alloc, star) else {

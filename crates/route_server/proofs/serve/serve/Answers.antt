@@ -1,7 +1,8 @@
-use Rattle.std.proofs.Common.{ap, arith, ◌∙◌}
+use Rattle.std.proofs.Common.{refl, ap, arith, ◌∙◌}
 use Rattle.tree_search.specs.Oracle.{Questions}
 use Rattle.forward_star.proofs.Bound.{dists_below}
 use Rattle.route_server.specs.Serving.{opening}
+use Rattle.route_server.proofs.ReadingLemmas.{reads_start, reads_more, reads_over}
 use Rattle.route_server.proofs.ServingLemmas.{runs_start, runs_more, ends_unread, ends_quit, ends_more_fault, ends_more_memory, ends_last, ends_last_quit, ends_last_fault, ends_last_memory, ends_end, ends_over, ends_failed}
 use Rattle.route_server.proofs.serve.serve.Goals as goal
 
@@ -21,6 +22,9 @@ lines-init g c = (
   omega arith,
   omega arith,
   ap (λ (o : Questions). o.graph) c.in-Ok.ensures,
+  reads_start c.in-Ok-new.reader _ c.in-Ok-new.ensures,
+  refl,
+  refl,
 )
 
 pub lines-preserved : goal.lines-preserved
@@ -30,6 +34,9 @@ lines-preserved g c = (
   omega (arith, c.lines.invariant.2, c.in-More.ensures.count),
   omega (arith, c.lines.invariant.3, c.in-Written.ensures.count),
   c.in-Written.ensures.same ∙ c.lines.invariant.4,
+  reads_more c.lines.reader c.next_line.new.reader c.in-More.asked _ _ _ (c.in-Written.ensures.unquit refl) c.lines.invariant.5 c.in-More.ensures.goes,
+  c.in-More.ensures.quiet (λ e. cc) ∙ c.lines.invariant.6,
+  c.in-Written.ensures.quiet (λ e. cc) ∙ c.lines.invariant.7,
 )
 
 pub returns-in-Quit-clause-stops : goal.returns-in-Quit-clause-stops
@@ -71,3 +78,7 @@ returns-in-WriteFault-serve_one-clause-stops g c =
 pub returns-in-NoMemory-serve_one-clause-stops : goal.returns-in-NoMemory-serve_one-clause-stops
 returns-in-NoMemory-serve_one-clause-stops g c =
     ends_last_memory c.args.star.now opening opening c.lines.reader c.next_line.new.reader c.in-Last.asked _ _ _ _ _ _ c.lines.invariant.1 c.in-Last.ensures.goes c.in-NoMemory-serve_one.ensures.serves
+
+pub returns-in-Over-clause-long : goal.returns-in-Over-clause-long
+returns-in-Over-clause-long g c e =
+    reads_over c.lines.reader c.next_line.new.reader _ _ _ c.lines.invariant.5 c.in-Over.ensures.goes

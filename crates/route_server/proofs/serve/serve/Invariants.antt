@@ -1,6 +1,7 @@
 use Rattle.std.proofs.Common.{◌≡◌, ◌≤◌}
 use Rattle.road_text.specs.Reader.{budget}
 use Rattle.route_server.specs.Serving.{opening}
+use Rattle.route_server.proofs.ReadingLemmas.{ReadsOn}
 use Rattle.route_server.proofs.ServingLemmas.{Runs}
 use Rattle.route_server.proofs.serve.serve.Given as goal
 
@@ -11,6 +12,9 @@ invariant-lines g l =
     × (g.S.Source.faults l.fn.input ≤ g.S.Source.faults l.input)
     × (g.K.Sink.faults l.fn.output ≤ g.K.Sink.faults l.output)
     × (l.oracle.graph ≡ l.star)
+    × ReadsOn l.reader (g.S.Source.left l.fn.input) (g.S.Source.left l.input)
+    × (g.S.Source.faults l.input ≡ g.S.Source.faults l.fn.input)
+    × (g.K.Sink.faults l.output ≡ g.K.Sink.faults l.fn.output)
 
 abbrev pub decreases-lines : goal.decreases-lines
 decreases-lines g l = budget l.reader

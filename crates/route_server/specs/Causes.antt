@@ -1,0 +1,87 @@
+-- What the end of a run says of the outside, whatever stands written.
+--   IsRefusal status             the words were refused, or the graph file was
+--   IsEarly status               a command that writes one text ended before its write
+--   IsWhole status               the work was done, or memory was refused, or the input is too long
+--   HasFile command              the command names a graph file
+--   IsAccepted shelf name        the shelf tells its files, and that of the name is a graph file without a fault
+--   IsReady command shelf name   there is a command, and the graph file that it names, if it does, is accepted
+--   HasFault told name fault     the file of the name has this first fault
+--   IsUnjudged told name after   the file of the name couldn't be picked, and the shelf is as before; or a read of it failed
+--                                behind whole lines that have no fault
+--   IsLong text                  the text is too long, and no line that ends within the limit ends the run
+use Rattle.std.specs.Prelude.{◌≡◌, ℕ, ◌<◌, ◌⊎◌, List, Option, Some, None, Ok, Err, length}
+use Rattle.road_io.specs.Told.{Told}
+use Rattle.road_model.specs.Graph.{Graph}
+use Rattle.dimacs_reader.specs.declared.fault.GraphFault.{GraphFault}
+use Rattle.dimacs_reader.specs.Gr.{gr_text}
+use Rattle.dimacs_reader.specs.Reads.{IsCutShort}
+use Rattle.route_server.specs.declared.status.Status.{Status}
+use Rattle.route_server.specs.declared.status.Status.TheVariants.{Done, Usage, GraphRefused, ReadFault, WriteFault, NoMemory, InputLong}
+use Rattle.route_server.specs.declared.words.Command.{Command}
+use Rattle.route_server.specs.declared.words.Command.TheVariants.{Check, Print, Make, Survey, Answer}
+use Rattle.route_server.specs.Asking.{lines_within, most_input, NoQuit}
+
+abbrev pub IsRefusal : Status → Type 0
+IsRefusal Done = ⊥
+IsRefusal Usage = Unit {0}
+IsRefusal (GraphRefused fault) = Unit {0}
+IsRefusal ReadFault = ⊥
+IsRefusal WriteFault = ⊥
+IsRefusal NoMemory = ⊥
+IsRefusal InputLong = ⊥
+
+abbrev pub IsEarly : Status → Type 0
+IsEarly Done = ⊥
+IsEarly Usage = Unit {0}
+IsEarly (GraphRefused fault) = Unit {0}
+IsEarly ReadFault = Unit {0}
+IsEarly WriteFault = ⊥
+IsEarly NoMemory = Unit {0}
+IsEarly InputLong = Unit {0}
+
+abbrev pub IsWhole : Status → Type 0
+IsWhole Done = Unit {0}
+IsWhole Usage = ⊥
+IsWhole (GraphRefused fault) = ⊥
+IsWhole ReadFault = ⊥
+IsWhole WriteFault = ⊥
+IsWhole NoMemory = Unit {0}
+IsWhole InputLong = Unit {0}
+
+abbrev pub HasFile : Option Command → Type 0
+HasFile command = (command ≡ Some Check) ⊎ ((command ≡ Some Print) ⊎ (command ≡ Some Answer))
+
+pub record IsAccepted (shelf : Option Told) (name : List ℕ) : Type 0 where
+  pub told : Told
+  pub is : shelf ≡ Some told
+  pub bytes : List ℕ
+  pub file : told.files name ≡ Some bytes
+  pub graph : Graph
+  pub whole : gr_text bytes ≡ Ok graph
+
+abbrev pub IsReady : Option Command → Option Told → List ℕ → Type 0
+IsReady None shelf name = ⊥
+IsReady (Some Check) shelf name = IsAccepted shelf name
+IsReady (Some Print) shelf name = IsAccepted shelf name
+IsReady (Some (Make grid)) shelf name = Unit {0}
+IsReady (Some (Survey grid queries)) shelf name = Unit {0}
+IsReady (Some Answer) shelf name = IsAccepted shelf name
+
+pub record HasFault (told : Told) (name : List ℕ) (fault : GraphFault) : Type 0 where
+  pub bytes : List ℕ
+  pub file : told.files name ≡ Some bytes
+  pub first : gr_text bytes ≡ Err fault
+
+pub record IsCutOff (told : Told) (name : List ℕ) (after : Option Told) : Type 0 where
+  pub bytes : List ℕ
+  pub file : told.files name ≡ Some bytes
+  pub left : Told
+  pub is : after ≡ Some left
+  pub cut : IsCutShort bytes left.bytes
+
+abbrev pub IsUnjudged : Told → List ℕ → Option Told → Type 0
+IsUnjudged told name after = (after ≡ Some told) ⊎ IsCutOff told name after
+
+pub record IsLong (text : List ℕ) : Type 0 where
+  pub long : most_input < length text
+  pub unquit : NoQuit (lines_within text)
