@@ -7,7 +7,7 @@
 --   IsLeastStep g t labels v s   the step s is the least tight arc out of v, which has a label and isn't t
 --   IsStepDown                   Some: such a step; None: v is t, or has no label
 --   Adds g t v old new           the list goes on with the canonical path from v to t
-use Rattle.std.specs.Prelude.{◌≡◌, ◌≢◌, ◌<◌, ◌≤◌, ◌⊎◌, ◌+◌, ◌^◌, ℕ, List, ◌++◌, length, Option, Some, None}
+use Rattle.std.specs.Prelude.{◌≡◌, ◌≢◌, ◌<◌, ◌≤◌, ◌⊎◌, ◌+◌, ◌^◌, ℕ, List, ◌++◌, Option, Some, None}
 use Rattle.road_model.specs.declared.rows.ArcRow.{ArcRow}
 use Rattle.road_model.specs.declared.network.Step.{Step}
 use Rattle.road_model.specs.Graph.{Graph, arc_at, IsGraph, arc_count}
