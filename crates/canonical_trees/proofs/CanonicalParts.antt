@@ -1,12 +1,14 @@
 -- The parts of a canonical walk are canonical.
-use Rattle.std.proofs.Common.{ℕ, ◌≤◌, List, [], ◌∷◌, ◌++◌, reverse, subst, arith, inl, inr}
+use Rattle.std.proofs.Common.{◌≡◌, ℕ, ◌≤◌, List, [], ◌∷◌, ◌++◌, reverse, Option, Some, None, refl, sym, subst, arith, inl, inr}
 use Rattle.std.proofs.lemmas.List.{reverse-append}
 use Rattle.road_model.specs.Graph.{Graph}
 use Rattle.road_model.specs.Walk.{IsWalk, walk_length}
 use Rattle.road_model.specs.Dist.{IsShortest}
 use Rattle.road_model.specs.Canonical.{LexLe, IsFirst, IsLast}
 use Rattle.road_model.proofs.Walks.{Cut, cut, IsWalk-append, IsWalk-end, walk_length-append}
-use Rattle.road_model.proofs.Dists.{front_of_shortest, back_of_shortest}
+use Rattle.road_model.proofs.Dists.{IsDist-same, dist_of_shortest, front_of_shortest, back_of_shortest}
+use Rattle.tree_search.specs.Ball.{IsWithin}
+use Rattle.canonical_trees.specs.Trees.{IsInside}
 
 LexLe-strip : (x p q : List ℕ) → LexLe (x ++ p) (x ++ q) → LexLe p q
 LexLe-strip [] p q h = h
@@ -46,4 +48,30 @@ front_of_first g a b s v w h front =
           LexLe-strip (reverse b) (reverse a) (reverse q)
           (subst (λ (x : List ℕ). LexLe x (reverse b ++ reverse q)) (reverse-append a b)
           (subst (λ (x : List ℕ). LexLe (reverse (a ++ b)) x) (reverse-append q b) whole)));
+    }
+
+pub IsFirst-nil : (g : Graph) (s : ℕ) → IsFirst g s [] s
+IsFirst-nil g s = record { shortest = record { walk = refl; least = (λ q w. omega arith) }; least = (λ q w. tt) }
+
+pub within_less : (radius : Option ℕ) (a b : ℕ) → a ≤ b → IsWithin radius b → IsWithin radius a
+within_less None a b le h = tt
+within_less (Some r) a b le h = omega arith
+
+-- a vertex before one that is inside, on the canonical path to it, is inside
+pub inside_before : (g : Graph) (radius : Option ℕ) (s v w : ℕ) (a b : List ℕ) → IsFirst g s (a ++ b) w → IsFirst g s a v → IsInside g radius s w → IsInside g radius s v
+inside_before g radius s v w a b whole part inside =
+    let far : walk_length g (a ++ b) ≡ inside.distance = IsDist-same g s w (walk_length g (a ++ b)) inside.distance (dist_of_shortest g s w (a ++ b) whole.shortest) inside.dist in
+    record {
+      distance = walk_length g a;
+      dist = dist_of_shortest g s v a part.shortest;
+      within = within_less radius (walk_length g a) inside.distance (omega (arith, walk_length-append g a b)) inside.within;
+    }
+
+pub inside_after : (g : Graph) (radius : Option ℕ) (v w t : ℕ) (a b : List ℕ) → IsLast g v (a ++ b) t → IsLast g w b t → IsInside g radius v t → IsInside g radius w t
+inside_after g radius v w t a b whole part inside =
+    let far : walk_length g (a ++ b) ≡ inside.distance = IsDist-same g v t (walk_length g (a ++ b)) inside.distance (dist_of_shortest g v t (a ++ b) whole.shortest) inside.dist in
+    record {
+      distance = walk_length g b;
+      dist = dist_of_shortest g w t b part.shortest;
+      within = within_less radius (walk_length g b) inside.distance (omega (arith, walk_length-append g a b)) inside.within;
     }

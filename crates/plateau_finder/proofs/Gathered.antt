@@ -1,5 +1,5 @@
 -- The plateaus that begin at the vertices of a ball, one vertex after the other, and their order.
-use Rattle.std.proofs.Common.{◌≡◌, ◌≢◌, ℕ, ◌+◌, ◌<◌, ◌≤◌, ◌⊎◌, ◌==◌, zero, suc, Bool, false, List, [], ◌∷◌, ◌++◌, length, get_or, Option, Some, None, All, AllPairs, Contains, slice_get, IsPermutation, refl, sym, ap, ◌∙◌, subst, arith, inl, inr, ⊎_elim}
+use Rattle.std.proofs.Common.{◌≡◌, ◌≢◌, ℕ, ◌+◌, ◌<◌, ◌≤◌, ◌⊎◌, ◌==◌, zero, suc, Bool, false, List, [], ◌∷◌, ◌++◌, length, get_or, Option, Some, None, All, AllPairs, Contains, slice_get, IsPermutation, sym, ap, ◌∙◌, subst, arith, inl, inr, ⊎_elim}
 use Rattle.std.specs.List.{IsDistinct}
 use Rattle.std.specs.List.Sorted.{IsNonDecreasingBy, IsStrictlyIncreasing}
 use Rattle.std.proofs.lemmas.Bool.{cases_lt, cases_order, ne_eqb, eqb-false}
@@ -18,7 +18,7 @@ use Rattle.plateau_finder.specs.declared.plateau.Plateau.{Plateau}
 use Rattle.plateau_finder.specs.Plateaus.{IsInBoth, IsThrough, IsPlateauOf, IsListed, HasPlateau, ArePlateaus, IsPlateauAt}
 use Rattle.plateau_finder.specs.Links.{IsPrevious, IsChainFrom, IsChainBack, HasLinkInto, HasStart, HasLeast, IsStart, StartsAt, AreGathered}
 use Rattle.plateau_finder.proofs.LinkedVias.{via_before}
-use Rattle.plateau_finder.proofs.WholeChains.{HasWalkThrough, walk_through, same_first}
+use Rattle.plateau_finder.proofs.WholeChains.{walk_through, same_first}
 
 -- the vertex stands among the first i
 pub record StandsBefore (vertices : List ℕ) (i v : ℕ) : Type 0 where

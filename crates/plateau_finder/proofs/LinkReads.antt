@@ -1,5 +1,5 @@
 -- The links that the arcs of the two trees tell of.
-use Rattle.std.proofs.Common.{◌≡◌, ℕ, ◌⊎◌, List, [], ◌∷◌, ◌++◌, Option, Some, None, refl, sym, ap, ◌∙◌, subst, arith, ⊎_elim}
+use Rattle.std.proofs.Common.{◌≡◌, ℕ, [], ◌∷◌, ◌++◌, Some, None, sym, ap, ◌∙◌, subst, ⊎_elim}
 use Rattle.road_model.specs.declared.rows.ArcRow.{ArcRow}
 use Rattle.road_model.specs.declared.network.Step.{Step}
 use Rattle.road_model.specs.Graph.{Graph, arc_at}
@@ -12,15 +12,13 @@ use Rattle.canonical_trees.proofs.Balls.{apart}
 use Rattle.plateau_finder.specs.Plateaus.{IsInBoth}
 use Rattle.plateau_finder.specs.Links.{IsLink, IsLinkInside, IsNext, IsPrevious}
 use Rattle.plateau_finder.proofs.Cuts.{same_last, no_last}
-use Rattle.plateau_finder.proofs.LinkedVias.{inside_before, inside_after, link_walk}
+use Rattle.canonical_trees.proofs.CanonicalParts.{IsFirst-nil, inside_before, inside_after}
+use Rattle.plateau_finder.proofs.LinkedVias.{link_walk}
 
 no_link_at_target : (ts : Trees) (v : ℕ) → IsLink ts ts.target v → ⊥
 no_link_at_target ts v l =
     let same : l.arc ∷ l.back ≡ [] = IsLast-unique ts.graph ts.target ts.target (l.arc ∷ l.back) [] l.last (IsLast-nil ts.graph ts.target) in
     cc
-
-IsFirst-nil : (g : Graph) (s : ℕ) → IsFirst g s [] s
-IsFirst-nil g s = record { shortest = record { walk = refl; least = (λ q w. omega arith) }; least = (λ q w. tt) }
 
 no_link_to_source : (ts : Trees) (u : ℕ) → IsLink ts u ts.source → ⊥
 no_link_to_source ts u l =

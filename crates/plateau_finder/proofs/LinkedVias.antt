@@ -1,45 +1,19 @@
 -- The vias of one walk, by the lengths of the lists of arcs before them: between two of them each place is one, so
 -- links join them.
-use Rattle.std.proofs.Common.{◌≡◌, ℕ, ◌+◌, ◌<◌, ◌≤◌, List, [], ◌∷◌, ◌++◌, length, Option, Some, None, refl, sym, ap, ◌∙◌, subst, arith, ⊎_elim, length-append, append_assoc}
+use Rattle.std.proofs.Common.{◌≡◌, ℕ, ◌+◌, ◌<◌, ◌≤◌, List, [], ◌∷◌, ◌++◌, length, Some, sym, ap, ◌∙◌, subst, arith, length-append, append_assoc}
 use Rattle.std.proofs.lemmas.List.{append-nil}
-use Rattle.road_model.specs.declared.rows.ArcRow.{ArcRow}
-use Rattle.road_model.specs.Graph.{Graph, IsGraph, IsVertex}
+use Rattle.road_model.specs.Graph.{IsGraph, IsVertex}
 use Rattle.road_model.specs.Walk.{IsWalk, walk_length}
 use Rattle.road_model.specs.Dist.{IsDist}
 use Rattle.road_model.specs.Canonical.{IsFirst, IsLast}
-use Rattle.road_model.specs.Alternatives.{IsVia}
-use Rattle.road_model.proofs.Walks.{Cut, cut, IsArc-at, IsWalk-end, IsWalk-inside, walk_length-append}
+use Rattle.road_model.proofs.Walks.{cut, IsArc-at, IsWalk-end, IsWalk-inside, walk_length-append}
 use Rattle.road_model.proofs.Dists.{IsDist-same, dist_of_shortest}
 use Rattle.road_model.proofs.CanonicalWalks.{IsFirst-unique, IsLast-unique}
-use Rattle.tree_search.specs.Ball.{IsWithin}
-use Rattle.canonical_trees.specs.Trees.{Trees, IsInside}
-use Rattle.canonical_trees.proofs.CanonicalParts.{rest_of_walk, front_of_first, back_of_last}
+use Rattle.canonical_trees.specs.Trees.{Trees}
+use Rattle.canonical_trees.proofs.CanonicalParts.{rest_of_walk, front_of_first, back_of_last, inside_before, inside_after}
 use Rattle.plateau_finder.specs.Plateaus.{IsInBoth, IsThrough}
 use Rattle.plateau_finder.specs.Links.{IsLink, IsLinkInside, HasLinkInto}
-use Rattle.plateau_finder.proofs.Cuts.{Middle, between_cuts, Last, last_item, nothing_left}
-
-pub within_less : (radius : Option ℕ) (a b : ℕ) → a ≤ b → IsWithin radius b → IsWithin radius a
-within_less None a b le h = tt
-within_less (Some r) a b le h = omega arith
-
--- a vertex before one that is inside, on the canonical path to it, is inside
-pub inside_before : (g : Graph) (radius : Option ℕ) (s v w : ℕ) (a b : List ℕ) → IsFirst g s (a ++ b) w → IsFirst g s a v → IsInside g radius s w → IsInside g radius s v
-inside_before g radius s v w a b whole part inside =
-    let far : walk_length g (a ++ b) ≡ inside.distance = IsDist-same g s w (walk_length g (a ++ b)) inside.distance (dist_of_shortest g s w (a ++ b) whole.shortest) inside.dist in
-    record {
-      distance = walk_length g a;
-      dist = dist_of_shortest g s v a part.shortest;
-      within = within_less radius (walk_length g a) inside.distance (omega (arith, walk_length-append g a b)) inside.within;
-    }
-
-pub inside_after : (g : Graph) (radius : Option ℕ) (v w t : ℕ) (a b : List ℕ) → IsLast g v (a ++ b) t → IsLast g w b t → IsInside g radius v t → IsInside g radius w t
-inside_after g radius v w t a b whole part inside =
-    let far : walk_length g (a ++ b) ≡ inside.distance = IsDist-same g v t (walk_length g (a ++ b)) inside.distance (dist_of_shortest g v t (a ++ b) whole.shortest) inside.dist in
-    record {
-      distance = walk_length g b;
-      dist = dist_of_shortest g w t b part.shortest;
-      within = within_less radius (walk_length g b) inside.distance (omega (arith, walk_length-append g a b)) inside.within;
-    }
+use Rattle.plateau_finder.proofs.Cuts.{Middle, between_cuts, last_item, nothing_left}
 
 -- a vertex between two vias of a walk
 pub record ViaBetween (ts : Trees) (front back : List ℕ) : Type 0 where

@@ -1,22 +1,21 @@
 -- A chain of links, from a vertex into which none leads to one out of which none does, is a plateau.
-use Rattle.std.proofs.Common.{◌≡◌, ℕ, ◌+◌, ◌<◌, ◌≤◌, ◌⊎◌, List, [], ◌∷◌, ◌++◌, length, Option, Some, None, refl, sym, ap, ◌∙◌, subst, arith, inl, inr, ⊎_elim, length-append}
-use Rattle.std.proofs.lemmas.Bool.{cases_lt, cases_order}
-use Rattle.road_model.specs.Graph.{Graph, IsGraph, IsVertex}
+use Rattle.std.proofs.Common.{◌≡◌, ℕ, ◌+◌, ◌<◌, ◌≤◌, ◌⊎◌, List, [], ◌∷◌, ◌++◌, length, Option, Some, None, refl, sym, subst, arith, ⊎_elim}
+use Rattle.std.proofs.lemmas.Bool.{cases_lt}
+use Rattle.road_model.specs.Graph.{IsGraph, IsVertex}
 use Rattle.road_model.specs.Walk.{walk_length}
 use Rattle.road_model.specs.Dist.{IsDist}
-use Rattle.road_model.specs.Canonical.{IsFirst}
-use Rattle.road_model.specs.Alternatives.{IsVia, IsName, IsPlateau}
 use Rattle.road_model.proofs.Walks.{walk_length-append, walk_length-positive}
 use Rattle.road_model.proofs.Dists.{IsDist-same, dist_of_shortest}
 use Rattle.tree_search.specs.Ball.{IsWithin}
-use Rattle.canonical_trees.specs.Trees.{Trees, IsInside, IsOutside}
+use Rattle.canonical_trees.specs.Trees.{Trees, IsOutside}
 use Rattle.canonical_trees.proofs.Balls.{apart, inside_vertex}
 use Rattle.canonical_trees.proofs.CanonicalExists.{first_of_dist, last_of_dist}
-use Rattle.canonical_trees.proofs.ThroughVertex.{IsVia-unique, via_parts, via_length}
+use Rattle.canonical_trees.proofs.CanonicalParts.{within_less}
+use Rattle.canonical_trees.proofs.ThroughVertex.{via_parts, via_length}
 use Rattle.plateau_finder.specs.declared.plateau.Plateau.{Plateau}
-use Rattle.plateau_finder.specs.Plateaus.{IsInBoth, IsThrough, IsPlateauOf, IsListed}
-use Rattle.plateau_finder.specs.Links.{IsLink, IsLinkInside, IsNext, IsPrevious, IsChainFrom, IsChainBack, HasLinkInto, IsStart, StartsAt}
-use Rattle.plateau_finder.proofs.LinkedVias.{within_less, same_place, same_front, farther, later_links, earlier_links, link_walk, via_on, via_before}
+use Rattle.plateau_finder.specs.Plateaus.{IsInBoth, IsThrough, IsPlateauOf}
+use Rattle.plateau_finder.specs.Links.{IsLink, IsLinkInside, IsNext, IsPrevious, IsChainFrom, HasLinkInto, IsStart, StartsAt}
+use Rattle.plateau_finder.proofs.LinkedVias.{same_place, farther, later_links, earlier_links, link_walk, via_on, via_before}
 
 -- along a link the source is farther, and the target nearer
 pub link_farther : (ts : Trees) (u v a b : ℕ) → IsGraph ts.graph → IsLink ts u v → IsDist ts.graph ts.source u (Some a) → IsDist ts.graph ts.source v (Some b) → a < b

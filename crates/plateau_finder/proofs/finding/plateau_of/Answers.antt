@@ -1,6 +1,5 @@
-use Rattle.std.proofs.Common.{ℕ, List, sym, ◌∙◌, subst}
+use Rattle.std.proofs.Common.{ℕ, List, sym, subst}
 use Rattle.plateau_finder.specs.declared.plateau.Plateau.{Plateau}
-use Rattle.plateau_finder.specs.Plateaus.{IsPlateauAt}
 use Rattle.plateau_finder.specs.Links.{HasLeast, IsChainBack}
 use Rattle.plateau_finder.proofs.Sound.{sound_of, vertex_of}
 use Rattle.plateau_finder.proofs.WholeChains.{inside_both}

@@ -1,4 +1,4 @@
-use Rattle.std.proofs.Common.{◌≡◌, refl, arith}
+use Rattle.std.proofs.Common.{arith}
 use Rattle.plateau_finder.proofs.LinkReads.{next_none, next_no_back, next_apart, next_found}
 use Rattle.plateau_finder.proofs.links.next_of.Goals as goal
 

@@ -1,4 +1,4 @@
-use Rattle.std.proofs.Common.{◌≡◌, refl, arith}
+use Rattle.std.proofs.Common.{arith}
 use Rattle.plateau_finder.proofs.LinkReads.{previous_none, previous_no_onward, previous_apart, previous_found}
 use Rattle.plateau_finder.proofs.links.previous_of.Goals as goal
 
