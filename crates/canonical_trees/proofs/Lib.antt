@@ -8,3 +8,5 @@ pub mod Arcs
 pub mod Bounds
 pub mod WholePaths
 pub mod CanonicalExists
+pub mod CanonicalParts
+pub mod ThroughVertex

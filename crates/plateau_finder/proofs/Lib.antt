@@ -1,0 +1,6 @@
+pub mod Cuts
+pub mod LinkedVias
+pub mod LinkReads
+pub mod WholeChains
+pub mod Gathered
+pub mod Sound

@@ -1,0 +1,2 @@
+pub mod Plateaus
+pub mod Links

@@ -1,0 +1,91 @@
+//! All plateaus.
+
+ghost use Rattle.std.specs.Prelude.{◌≡◌, Some, None, IfOk, Contains};
+ghost use Rattle.plateau_finder.specs.Plateaus.{IsInBoth, ArePlateaus, FindsPlateau};
+ghost use Rattle.plateau_finder.specs.Links.{IsChainBack, AreGathered, HasLeast};
+
+use crate::chains::{first_of, plateau_at, plateau_from};
+use crate::plateau::{Plateau, PlateauList};
+use canonical_trees::TreePair;
+use road_model::{NoMemory, Vertex};
+use std::alloc::Global;
+
+/// The plateaus of the walks within the bound, by rising first vertex.
+fn gathered(
+    alloc: Global,
+    pair: &TreePair<'_>,
+    bound: Option<u64>,
+) -> Result<Vec<Plateau>, NoMemory>
+    ensures { IfOk result (λ cs. AreGathered pair.now bound cs.items) }
+{
+    let _limits = pair.star().graph();
+    let mut found = Vec::new(alloc);
+    for v in pair.from_members().as_slice() {
+        if let Some(plateau) = plateau_at(pair, *v, bound) {
+            found.push(plateau)?;
+        }
+    }
+    Ok(found)
+}
+
+fn in_order(alloc: Global, pair: &TreePair<'_>, bound: Option<u64>) -> Result<PlateauList, NoMemory>
+    ensures { IfOk result (λ cs. ArePlateaus pair.now bound cs) }
+{
+    let mut found = gathered(alloc, pair, bound)?;
+    found.sort_by_key(|plateau| plateau.least)?;
+    Ok(PlateauList::from_vec(found))
+}
+
+/// All classes of the vertices in both balls that have one walk through them. One pass over the ball from the
+/// source, in linear time, and a sort of the plateaus; 24 bytes a plateau. No walk is made or compared.
+pub fn plateaus(alloc: Global, pair: &TreePair<'_>) -> Result<PlateauList, NoMemory>
+    ensures { IfOk result (λ cs. ArePlateaus pair.now None cs) }
+{
+    let list = in_order(alloc, pair, None)?;
+    Ok(list)
+}
+
+/// Those whose walk is no longer than the bound. The same pass, and only these are kept and sorted.
+pub fn plateaus_within(
+    alloc: Global,
+    pair: &TreePair<'_>,
+    bound: u64,
+) -> Result<PlateauList, NoMemory>
+    ensures { IfOk result (λ cs. ArePlateaus pair.now (Some bound) cs) }
+{
+    let list = in_order(alloc, pair, Some(bound))?;
+    Ok(list)
+}
+
+/// The plateau of this name.
+fn named(list: &[Plateau], least: Vertex) -> Plateau
+    requires { HasLeast list.now least }
+    ensures listed { Contains list.now result }
+    ensures least { result.least ≡ least }
+{
+    for plateau in list {
+        if plateau.least.number() == least.number() {
+            return *plateau;
+        }
+    }
+    unreachable!()
+}
+
+/// The class of a vertex; none exactly where it is outside a ball. Takes the time of the class's length and a scan
+/// of the list, and no memory. The list is that of all plateaus of the pair.
+pub fn plateau_of(list: &PlateauList, pair: &TreePair<'_>, v: Vertex) -> Option<Plateau>
+    requires { ArePlateaus pair.now None list.now }
+    ensures { FindsPlateau pair.now list.now v result }
+{
+    let _limits = pair.star().graph();
+    let _source = pair.source();
+    let Some(_near) = pair.from_label(v) else {
+        return None;
+    };
+    let Some(_left) = pair.to_label(v) else {
+        return None;
+    };
+    let first = first_of(pair, v);
+    let chain = plateau_from(pair, first);
+    Some(named(list.as_slice(), chain.least))
+}
