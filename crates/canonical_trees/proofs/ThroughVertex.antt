@@ -31,4 +31,3 @@ pub via_length : (g : Graph) (s t v a b : ℕ) (p : List ℕ) → IsVia g s t v 
 via_length g s t v a b p h d e =
     let back : walk_length g h.back ≡ b = IsDist-same g v t (walk_length g h.back) b (dist_of_shortest g v t h.back h.last.shortest) e in
     omega (arith, via_parts g s t v p h, near_of_via g s t v a p h d)
-

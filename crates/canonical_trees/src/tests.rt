@@ -247,22 +247,23 @@ fn row_text(alloc: Global, pair: &TreePair<'_>, v: u32) -> Result<String, Fail> 
     Ok(format!(in alloc; "{near} {far} {last} {first}")?)
 }
 
-fn halves(alloc: Global, star: &Star) -> Result<TreePair<'_>, Fail> {
+// From 1 and to 6, put together out of two trees.
+fn halves(alloc: Global, star: &Star, radius: u64) -> Result<TreePair<'_>, Fail> {
     if !is_vertex(star, 1) {
         return Err("no vertex to begin at".into());
     }
     if !is_vertex(star, 6) {
         return Err("no vertex to end at".into());
     }
-    let from = tree_from(alloc, star, Vertex(1), Some(17))?;
-    let to = tree_to(alloc, star, Vertex(6), Some(17))?;
+    let from = tree_from(alloc, star, Vertex(1), Some(radius))?;
+    let to = tree_to(alloc, star, Vertex(6), Some(radius))?;
     Ok(TreePair::of(from, to))
 }
 
 #[test]
 fn shows_labels_members_and_arcs(rt: HostRuntime) -> Result<(), Fail> {
     let star = star_of(rt.alloc(), Name::A)?;
-    let pair = halves(rt.alloc(), &star)?;
+    let pair = halves(rt.alloc(), &star, 17)?;
     let rows = [
         (0, "- - - -"),
         (1, "0 - - -"),
@@ -287,7 +288,7 @@ fn shows_labels_members_and_arcs(rt: HostRuntime) -> Result<(), Fail> {
 #[test]
 fn shows_its_roots_and_steps(rt: HostRuntime) -> Result<(), Fail> {
     let star = star_of(rt.alloc(), Name::A)?;
-    let pair = halves(rt.alloc(), &star)?;
+    let pair = halves(rt.alloc(), &star, 17)?;
     assert_eq!(rt; pair.star().graph().vertices(), 6);
     assert_eq!(rt; pair.source().number(), 1);
     assert_eq!(rt; pair.target().number(), 6);
@@ -297,5 +298,17 @@ fn shows_its_roots_and_steps(rt: HostRuntime) -> Result<(), Fail> {
     assert_eq!(rt; before, 1);
     let behind = pair.to_step(Vertex(3)).map_or(0, |step| step.head.number());
     assert_eq!(rt; behind, 4);
+    Ok(())
+}
+
+#[test]
+fn finds_paths_through_a_joined_pair(rt: HostRuntime) -> Result<(), Fail> {
+    let star = star_of(rt.alloc(), Name::A)?;
+    let pair = halves(rt.alloc(), &star, 25)?;
+    let path = via_path(rt.alloc(), &pair, Vertex(4))?;
+    let arcs = path.map_or(0, |arcs| arcs.len());
+    assert_eq!(rt; arcs, 3);
+    let none = via_path(rt.alloc(), &pair, Vertex(5))?;
+    assert!(rt; none.is_none());
     Ok(())
 }

@@ -58,8 +58,13 @@ fn routes_and_their_pages(rt: HostRuntime) -> Result<(), Fail> {
 
 #[test]
 fn verdicts_and_optima(rt: HostRuntime) -> Result<(), Fail> {
-    let rows: [(&[u8], &[u8], &[u8]); 17] = [
+    let rows: [(&[u8], &[u8], &[u8]); 18] = [
         (SMALL, b"optimum 1 6\n", BEST),
+        (
+            SMALL,
+            b"optimum 1 1\n",
+            b"ok 1\noptimum length 0 arcs\nend\n",
+        ),
         (SMALL, b"optimum 6 1\n", b"none 1\n"),
         (
             SMALL,

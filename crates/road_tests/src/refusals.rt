@@ -1,8 +1,24 @@
-//! The order of refusals: each line has two faults, and the first is named. A good line follows, and is answered.
+//! Refusals: of a line with two faults the first is named. A good line follows, and is answered.
 
 use crate::graphs::SMALL;
 use crate::runs::answers;
+use std::alloc::Global;
+use std::process::Abort;
 use std::test::Fail;
+use std::thread::Threads;
+
+fn refused<R: Abort + Threads + Sync>(
+    rt: &R,
+    alloc: Global,
+    line: &[u8],
+    reply: &[u8],
+) -> Result<(), Fail> {
+    let mut input = Vec::from_slice(alloc, line)?;
+    input.extend_from_slice(b"\nversion\n")?;
+    let mut output = Vec::from_slice(alloc, reply)?;
+    output.extend_from_slice(b"version 1\n")?;
+    answers(rt, alloc, SMALL, &input, &output)
+}
 
 #[test]
 fn the_first_fault_of_a_line_is_named(rt: HostRuntime) -> Result<(), Fail> {
@@ -38,13 +54,25 @@ fn the_first_fault_of_a_line_is_named(rt: HostRuntime) -> Result<(), Fail> {
         (b"why 6 1 3 since 2", b"error behind 1\n"),
         (b"next 9.6.1.4.5.1.4.1.4.1.1", b"error gone 1\n"),
     ];
-    let alloc = rt.alloc();
     for (line, reply) in rows {
-        let mut input = Vec::from_slice(alloc, line)?;
-        input.extend_from_slice(b"\nversion\n")?;
-        let mut output = Vec::from_slice(alloc, reply)?;
-        output.extend_from_slice(b"version 1\n")?;
-        answers(&rt, alloc, SMALL, &input, &output)?;
+        refused(&rt, rt.alloc(), line, reply)?;
+    }
+    Ok(())
+}
+
+#[test]
+fn a_single_fault_is_named(rt: HostRuntime) -> Result<(), Fail> {
+    let rows: [(&[u8], &[u8]); 7] = [
+        (b"next 01.1.6.4.5.1.4.1.4.1.1", b"error cursor\n"),
+        (b"why 1 6 7", b"error vertex\n"),
+        (b"route 1 6 gamma 2/1", b"error ratio\n"),
+        (b"route 1 6 size 0", b"error size\n"),
+        (b"route 1 6 size 65", b"error size\n"),
+        (b"route 1 6 since 2", b"error behind 1\n"),
+        (b"next 2.1.6.4.5.1.4.1.4.1.1", b"error gone 1\n"),
+    ];
+    for (line, reply) in rows {
+        refused(&rt, rt.alloc(), line, reply)?;
     }
     Ok(())
 }

@@ -83,8 +83,13 @@ fn star_of(alloc: Global) -> Result<Star, Fail> {
         (3, 4, 6),
         (4, 6, 5),
         (2, 3, 1),
-        (5, 1, 4294967295),
     ];
+    Ok(Star::build(alloc, graph_of(alloc, 6, &arcs)?)?)
+}
+
+// A long arc into the first vertex of a short one.
+fn long_star_of(alloc: Global) -> Result<Star, Fail> {
+    let arcs = [(5, 1, 4294967295), (1, 6, 20)];
     Ok(Star::build(alloc, graph_of(alloc, 6, &arcs)?)?)
 }
 
@@ -104,9 +109,9 @@ fn finds_a_ball(rt: HostRuntime) -> Result<(), Fail> {
 
 #[test]
 fn finds_all_that_can_be_reached(rt: HostRuntime) -> Result<(), Fail> {
-    let star = star_of(rt.alloc())?;
+    let star = long_star_of(rt.alloc())?;
     let all = ball_of(rt.alloc(), &star, 5, None)?;
-    assert_eq!(rt; all.members().len(), 6);
+    assert_eq!(rt; all.members().len(), 3);
     assert_eq!(rt; all.label(Vertex(6)), Some(4294967315));
     Ok(())
 }
@@ -114,8 +119,8 @@ fn finds_all_that_can_be_reached(rt: HostRuntime) -> Result<(), Fail> {
 #[test]
 fn answers_distances(rt: HostRuntime) -> Result<(), Fail> {
     let star = star_of(rt.alloc())?;
-    let pairs = [(2, 4), (1, 5), (1, 6), (6, 6), (5, 6), (2, 4)];
-    let wanted = [Some(7), None, Some(20), Some(0), Some(4294967315), Some(7)];
+    let pairs = [(2, 4), (1, 5), (1, 6), (6, 6), (2, 4)];
+    let wanted = [Some(7), None, Some(20), Some(0), Some(7)];
     let distances = distances_of(rt.alloc(), &star, &pairs)?;
     assert_eq!(rt; distances.as_slice(), wanted.as_slice());
     Ok(())
