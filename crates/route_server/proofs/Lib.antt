@@ -6,3 +6,4 @@ pub mod AnsweringLemmas
 pub mod ReplyLemmas
 pub mod SendingLemmas
 pub mod ReadingLemmas
+pub mod CauseLemmas
