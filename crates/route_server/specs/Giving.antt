@@ -5,7 +5,7 @@
 --   GivesOf IsText file ..          the same of the graph that a file gives. Its first fault comes before anything is written; where
 --                                   there is no such file, a read fault does
 --   check_text g                    the line that says how large a graph is
-use Rattle.std.specs.Prelude.{◌≡◌, ℕ, List, [], ◌∷◌, ◌++◌, Option, Some, None, Result, Ok, Err, length, codes, decimal}
+use Rattle.std.specs.Prelude.{◌≡◌, ℕ, List, [], ◌∷◌, ◌++◌, Option, Some, None, Result, Ok, Err, codes, decimal}
 use Rattle.road_io.specs.Sink.{WritesFront}
 use Rattle.road_model.specs.Graph.{Graph, arc_count}
 use Rattle.dimacs_reader.specs.declared.fault.GraphFault.{GraphFault}
