@@ -8,7 +8,7 @@ use Rattle.road_text.specs.Behind.{IsOver}
 use Rattle.road_text.proofs.BehindLemmas.{IsBehind-fresh}
 use Rattle.line_front.specs.declared.requests.Parsed.{Parsed}
 use Rattle.route_server.specs.declared.input.NextLine.TheVariants as next
-use Rattle.route_server.specs.Asking.{asked_by, is_quit, lines_within, most_input, NoQuit}
+use Rattle.route_server.specs.Asking.{is_quit, most_input, NoQuit}
 use Rattle.route_server.specs.Input.{IsAt, OneMore, Goes}
 use Rattle.route_server.specs.Causes.{IsLong}
 use Rattle.route_server.proofs.AskingLemmas.{NoQuit-push, within_long}
