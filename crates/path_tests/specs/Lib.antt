@@ -1,1 +1,2 @@
 pub mod JoinedTrail
+pub mod Passing
