@@ -4,7 +4,7 @@
 --                            is as long as its own
 --   FindsLeastFrom F i r     None where no pair with the first place i fails; else the failing one with the
 --                            least last place
-use Rattle.std.specs.Prelude.{◌≡◌, ◌<◌, ◌≤◌, ◌+◌, ◌^◌, ℕ, length, slice_index, Option, MatchOption}
+use Rattle.std.specs.Prelude.{◌≡◌, ◌<◌, ◌≤◌, ◌^◌, ℕ, length, slice_index, Option, MatchOption}
 use Rattle.road_model.specs.declared.answer.Pair.{Pair}
 use Rattle.road_model.specs.declared.trail.Trail.{Trail}
 use Rattle.road_model.specs.Graph.{Graph, IsVertex}
