@@ -86,7 +86,7 @@ pub asks_once_more : (old now : Graph) (f : Fraction) (l : ℕ) (t : Trail) (ask
 asks_once_more old now f l t asked_old asked_now asked_after via first width n r one low =
     AsksWithin-up asked_old asked_after (r.count + 1) n (omega (arith, r.few, r.some)) (AsksWithin-both asked_old asked_now asked_after r.count 1 r.asks one)
 
--- a detour begins before the via and ends behind it
+-- a detour that begins before the via ends after it
 pub detour_behind : (o : Graph) (t : Trail) (via first reach d : ℕ) → IsJoinedTrail o t via → first < via → first ≤ reach → IsDetour o t first reach d → via < reach
 detour_behind o t via first reach d h before rise detour =
     ⊎_elim (λ (lt : via < reach). lt)
@@ -164,7 +164,7 @@ end_found old now t asked_old asked_now via first reach clear last distance pair
       least = (λ j lt less. h.inner first first j clear (omega arith) (omega arith) (omega (arith, meet, less)) (omega (arith, e.apart, e.within)) e.passed);
     })
 
--- no first place so far is tested with an end behind the via
+-- no first place so far is tested with an end after the via
 pub starts_untested : (f : Fraction) (l : ℕ) (t : Trail) (via first : ℕ) (tested : Bool) → IsRising t → first < via → ((i j : ℕ) → i < first → via < j → j < length t.vertices → IsTested f l t i j → ⊥) → (IsTested f l t first (via + 1) → IsTrue tested) → tested ≡ false → (i j : ℕ) → i < first + 1 → via < j → j < length t.vertices → IsTested f l t i j → ⊥
 starts_untested f l t via first tested r before below only none i j lt behind inside h =
     ⊎_elim (λ (less : i < first). below i j less behind inside h)

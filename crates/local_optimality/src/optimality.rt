@@ -14,7 +14,7 @@ use road_model::{NoMemory, Oracle, Pair, Ratio, Trail};
 ///
 /// It asks at most as many questions as there are arcs before the via, and as the walk has places. One question
 /// clears a range of first places, which is doubled after each that does and halved after each that doesn't; where
-/// one first place fails, the ends behind it are halved. Beside them each question takes time linear in the places.
+/// one first place fails, its ends are halved. Beside them each question takes time linear in the places.
 pub fn local<O: Oracle>(
     oracle: &mut O,
     trail: &Trail,

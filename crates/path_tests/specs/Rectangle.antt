@@ -1,5 +1,5 @@
 -- Pairs of places round a via, as a rectangle of first places by last ones.
---   IsRectangle t via r      first places before the via, last places behind it, some of each
+--   IsRectangle t via r      first places before the via, last places after it, some of each
 --   IsPairOf r i j           the places i and j are a first and a last place of r
 --   pairs_in r               how many pairs there are
 --   spread_of r              how far it is from being one pair

@@ -13,7 +13,7 @@ use road_model::{NoMemory, Oracle, Pair, Ratio, Trail};
 /// place; none where no subpath is. A subpath that ends where it begins is stretched too far.
 ///
 /// Only pairs round the via can be. One question clears a whole rectangle of first and last places, or it is halved:
-/// at most as many questions as the arcs before the via times the arcs behind it.
+/// at most as many questions as the arcs before the via times the arcs after it.
 pub fn stretch<O: Oracle>(
     oracle: &mut O,
     trail: &Trail,
