@@ -1,5 +1,5 @@
 -- Detours: which subpaths are as long as the distance between their ends, and which tested ones are not.
-use Rattle.std.proofs.Common.{◌≡◌, ℕ, ◌+◌, ◌-◌, ◌<◌, ◌≤◌, length, Option, Some, None, sym, subst, arith, ⊎_elim}
+use Rattle.std.proofs.Common.{ℕ, ◌<◌, ◌≤◌, length, sym, subst, arith, ⊎_elim}
 use Rattle.std.proofs.lemmas.Bool.{cases_lt}
 use Rattle.road_model.specs.declared.answer.Pair.{Pair}
 use Rattle.road_model.specs.declared.trail.Trail.{Trail}
@@ -10,39 +10,15 @@ use Rattle.road_model.specs.Tests.{IsTested, FailsLocal, NoneFails, IsLeastFailu
 use Rattle.road_model.proofs.Dists.{IsDist-same}
 use Rattle.path_tests.specs.JoinedTrail.{IsJoinedTrail}
 use Rattle.path_tests.proofs.Searches.{starts_least}
-use Rattle.local_optimality.specs.Detour.{IsRising, FindsDetour, FindsLeastDetour}
-use Rattle.road_model.specs.ViaWalk.{AsksWithin}
+use Rattle.local_optimality.specs.Detour.{IsRising, FindsDetour}
 
 pub IsRising-from_joined : (o : Graph) (t : Trail) (via : ℕ) → IsJoinedTrail o t via → IsRising t
 IsRising-from_joined o t via h = record { same_length = h.same_length; few = h.few; rising = h.rising }
-
--- the subpaths from i that end before `last` are as long as the distances; the oracle's graph is as it was
-pub record OnDetours (old now : Graph) (t : Trail) (asked_old asked_now via i last : ℕ) : Type 0 where
-  pub same : now ≡ old
-  pub clear : (j : ℕ) → via < j → j < last → IsDistAt old t i j (between t i j)
-  pub asks : AsksWithin asked_old asked_now (last - (via + 1))
 
 -- a subpath as long as the distance does not fail
 pub clear_passes : (o : Graph) (f : Fraction) (l : ℕ) (t : Trail) (i j d : ℕ) → IsDistAt o t i j (between t i j) → FailsLocal o f l t i j d → ⊥
 clear_passes o f l t i j d h fails =
     fails.other (IsDist-same o (vertex_at t i) (vertex_at t j) (between t i j) d h fails.dist)
-
--- the first places before `first` do not fail, and the subpath from there to `cleared` is as long as the distance
-pub record OnReach (old now : Graph) (f : Fraction) (l : ℕ) (t : Trail) (asked_old asked_now via first cleared : ℕ) : Type 0 where
-  pub same : now ≡ old
-  pub passed : (i j d : ℕ) → i < first → FailsLocal old f l t i j d → ⊥
-  pub behind : via ≤ cleared
-  pub inside : cleared < length t.vertices
-  pub clear : IsDistAt old t first cleared (between t first cleared)
-  pub tested : first < via → (j : ℕ) → via < j → j ≤ cleared → IsTested f l t first j
-  pub asks : AsksWithin asked_old asked_now first
-
-pub local_passes : (o : Graph) (f : Fraction) (l : ℕ) (t : Trail) (via i reach : ℕ) → IsJoinedTrail o t via → via ≤ reach → reach < length t.vertices → IsDistAt o t i reach (between t i reach) → ((j : ℕ) → reach < j → j < length t.vertices → IsTested f l t i j → ⊥) → (j d : ℕ) → FailsLocal o f l t i j d → ⊥
-local_passes o f l t via i reach h behind inside clear untested j d fails =
-    ⊎_elim (λ (lt : reach < j). untested j lt fails.inside fails.tested)
-    (λ (le : j ≤ reach).
-    clear_passes o f l t i j d (h.inner i i j reach (omega arith) (omega (arith, fails.rise)) le inside clear) fails)
-    (cases_lt reach j)
 
 pub local_in_back : (o : Graph) (f : Fraction) (l : ℕ) (t : Trail) (via i j d : ℕ) → IsJoinedTrail o t via → via ≤ i → FailsLocal o f l t i j d → ⊥
 local_in_back o f l t via i j d h le fails =
@@ -59,7 +35,7 @@ local_none o f l t via first h le below i j d fails =
     (cases_lt i first)
 
 -- the first detour among the tested subpaths is the least failing pair
-detour_is_least : (o : Graph) (f : Fraction) (l : ℕ) (t : Trail) (via first reach : ℕ) (pair : Pair) → IsJoinedTrail o t via → first < via → reach < length t.vertices → ((i j d : ℕ) → i < first → FailsLocal o f l t i j d → ⊥) → ((j : ℕ) → via < j → j ≤ reach → IsTested f l t first j) → FindsDetour o t via first reach pair → IsLeastFailure (FailsLocal o f l t) pair.first pair.last pair.distance
+pub detour_is_least : (o : Graph) (f : Fraction) (l : ℕ) (t : Trail) (via first reach : ℕ) (pair : Pair) → IsJoinedTrail o t via → first < via → reach < length t.vertices → ((i j d : ℕ) → i < first → FailsLocal o f l t i j d → ⊥) → ((j : ℕ) → via < j → j ≤ reach → IsTested f l t first j) → FindsDetour o t via first reach pair → IsLeastFailure (FailsLocal o f l t) pair.first pair.last pair.distance
 detour_is_least o f l t via first reach pair h before inside below tested found =
     let fails : FailsLocal o f l t first pair.last pair.distance = record {
       rise = omega (arith, found.behind);
@@ -80,14 +56,3 @@ detour_is_least o f l t via first reach pair h before inside below tested found 
           (λ (le : pair.last ≤ b). le)
           (cases_lt b pair.last));
     }
-
-pub local_found : (old now : Graph) (f : Fraction) (l : ℕ) (t : Trail) (via first reach : ℕ) (result : Option Pair) (pair : Pair) → now ≡ old → IsJoinedTrail old t via → first < via → reach < length t.vertices → ((i j d : ℕ) → i < first → FailsLocal old f l t i j d → ⊥) → ((j : ℕ) → via < j → j ≤ reach → IsTested f l t first j) → FindsLeastDetour now t via first reach result → result ≡ Some pair → IsLeastFailure (FailsLocal old f l t) pair.first pair.last pair.distance
-local_found old now f l t via first reach result pair same h before inside below tested found is =
-    let then : FindsDetour now t via first reach pair = subst (λ (o : Option Pair). FindsLeastDetour now t via first reach o) is found in
-    detour_is_least old f l t via first reach pair h before inside below tested
-    (subst (λ (g : Graph). FindsDetour g t via first reach pair) same then)
-
-pub local_cleared : (old now : Graph) (t : Trail) (via first reach : ℕ) (result : Option Pair) → now ≡ old → FindsLeastDetour now t via first reach result → result ≡ None → IsDistAt old t first reach (between t first reach)
-local_cleared old now t via first reach result same found is =
-    let then : IsDistAt now t first reach (between t first reach) = subst (λ (o : Option Pair). FindsLeastDetour now t via first reach o) is found in
-    subst (λ (g : Graph). IsDistAt g t first reach (between t first reach)) same then

@@ -1,2 +1,3 @@
 pub mod ClearSubpaths
 pub mod TestedParts
+pub mod Halvings

@@ -1,5 +1,5 @@
 -- Which subpaths are tested.
-use Rattle.std.proofs.Common.{ℕ, ◌+◌, ◌-◌, ◌<◌, ◌≤◌, length, get_or, arith, inl, inr}
+use Rattle.std.proofs.Common.{◌≡◌, ℕ, zero, suc, ◌+◌, ◌-◌, ◌<◌, ◌≤◌, length, get_or, subst, arith, inl, inr}
 use Rattle.std.proofs.Math.Nat.{mul-le-mul_right}
 use Rattle.road_model.specs.declared.trail.Trail.{Trail}
 use Rattle.road_model.specs.Fraction.{Fraction, Allows, IsBelow}
@@ -34,3 +34,14 @@ IsTested-later f l t i j r apart lt (inr h) =
     let whole : get_or t.sums (i + 1) 0 ≤ get_or t.sums (i + 1 + 1) 0 = r.rising (i + 1) (i + 1 + 1) (omega arith) (omega arith) in
     let shorter : between t (i + 1 + 1) (j - 1) ≤ between t (i + 1) (j - 1) = omega arith in
     inr (omega arith, IsBelow-less f (between t (i + 1 + 1) (j - 1)) (between t (i + 1) (j - 1)) l shorter h.1)
+
+-- and the one that begins some places later
+pub IsTested-up : (f : Fraction) (l : ℕ) (t : Trail) (i n j : ℕ) → IsRising t → i + n + 2 ≤ j → j < length t.vertices → IsTested f l t i j → IsTested f l t (i + n) j
+IsTested-up f l t i zero j r apart lt h =
+    let same : i ≡ i + 0 = omega arith in
+    subst (λ (x : ℕ). IsTested f l t x j) same h
+IsTested-up f l t i (suc n) j r apart lt h =
+    let one : IsTested f l t (i + n) j = IsTested-up f l t i n j r (omega arith) lt h in
+    let next : IsTested f l t (i + n + 1) j = IsTested-later f l t (i + n) j r (omega arith) lt one in
+    let same : i + n + 1 ≡ i + suc n = omega arith in
+    subst (λ (x : ℕ). IsTested f l t x j) same next

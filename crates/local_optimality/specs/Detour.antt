@@ -3,12 +3,17 @@
 --   IsDetour o t i j d           the distance between two places is d, and the subpath isn't as long
 --   FindsDetour o t via i n p    of the ends behind the via up to n, p has the least whose subpath from i is
 --                                a detour
---   FindsLeastDetour .. result   None where the subpath from i to n is as long as the distance; else that pair
+--   TellsDetour o t i n result   None where the subpath from i to n is as long as the distance; else the distance
+--   IsFailingStart o f l t via p no pair fails whose first place is before that of p; the subpaths from there round
+--                                the via up to the last place of p are tested, and that one is a detour
+--   FindsFailingStart .. result  None where no pair fails; else such a pair
 use Rattle.std.specs.Prelude.{◌≡◌, ◌≢◌, ◌<◌, ◌≤◌, ◌^◌, ℕ, length, slice_index, Option, MatchOption}
 use Rattle.road_model.specs.declared.answer.Pair.{Pair}
 use Rattle.road_model.specs.declared.trail.Trail.{Trail}
 use Rattle.road_model.specs.Graph.{Graph}
+use Rattle.road_model.specs.Fraction.{Fraction}
 use Rattle.road_model.specs.Places.{between, IsDistAt}
+use Rattle.road_model.specs.Tests.{IsTested, FailsLocal, NoneFails}
 
 pub record IsRising (t : Trail) : Type 0 where
   pub same_length : length t.sums ≡ length t.vertices
@@ -26,6 +31,17 @@ pub record FindsDetour (o : Graph) (t : Trail) (via i n : ℕ) (pair : Pair) : T
   pub detour : IsDetour o t i pair.last pair.distance
   pub least : (j : ℕ) → via < j → j < pair.last → IsDistAt o t i j (between t i j)
 
-abbrev pub FindsLeastDetour : Graph → Trail → ℕ → ℕ → ℕ → Option Pair → Type 0
-FindsLeastDetour o t via i n result =
-    MatchOption result (IsDistAt o t i n (between t i n)) (FindsDetour o t via i n)
+abbrev pub TellsDetour : Graph → Trail → ℕ → ℕ → Option ℕ → Type 0
+TellsDetour o t i n result = MatchOption result (IsDistAt o t i n (between t i n)) (IsDetour o t i n)
+
+pub record IsFailingStart (o : Graph) (f : Fraction) (l : ℕ) (t : Trail) (via : ℕ) (pair : Pair) : Type 0 where
+  pub before : pair.first < via
+  pub behind : via < pair.last
+  pub inside : pair.last < length t.vertices
+  pub below : (i j d : ℕ) → i < pair.first → FailsLocal o f l t i j d → ⊥
+  pub tested : (j : ℕ) → via < j → j ≤ pair.last → IsTested f l t pair.first j
+  pub detour : IsDetour o t pair.first pair.last pair.distance
+
+abbrev pub FindsFailingStart : Graph → Fraction → ℕ → Trail → ℕ → Option Pair → Type 0
+FindsFailingStart o f l t via result =
+    MatchOption result (NoneFails (FailsLocal o f l t)) (IsFailingStart o f l t via)

@@ -7,4 +7,4 @@ mod detours;
 mod optimality;
 mod tested;
 
-pub use optimality::local;
+pub use optimality::{is_local, local};

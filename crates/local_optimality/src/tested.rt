@@ -6,7 +6,7 @@ use path_tests::length_between;
 use road_model::{Ratio, Trail};
 
 // The last place such that the subpath from `first` up to it is tested, given that those up to `from` are.
-// As the first place goes on this one never goes back, so all calls together take time linear in the places.
+// As the first place goes on this one never goes back. Linear in the places.
 pub fn last_tested(
     trail: &Trail,
     via_at: u32,
@@ -33,6 +33,27 @@ pub fn last_tested(
         }
     }
     places - 1
+}
+
+// The first place before the via whose subpath to the place after the via is tested; the via where none is. No
+// subpath round the via that begins before it is tested.
+pub fn first_round(trail: &Trail, via_at: u32, alpha: &Ratio, opt_len: u64) -> u32
+    requires rising { IsRising trail.now }
+    requires inside { via_at < length trail.now.vertices }
+    ensures within { result ≤ via_at }
+    ensures untested { (i j : ℕ) → i < result → via_at < j → j < length trail.now.vertices →
+        IsTested alpha.now opt_len trail.now i j → ⊥ }
+{
+    let places = trail.vertices.len() as u32;
+    if via_at + 1 == places {
+        return via_at;
+    }
+    for first in 0..via_at {
+        if is_tested(trail, alpha, opt_len, first, via_at + 1) {
+            return first;
+        }
+    }
+    via_at
 }
 
 // Whether a subpath of two arcs at least is short enough, or is without its first and its last arc.

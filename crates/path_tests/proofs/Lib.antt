@@ -2,3 +2,4 @@ pub mod JoinedTrails
 pub mod SharedArcs
 pub mod Searches
 pub mod Stretches
+pub mod Halving

@@ -1,11 +1,8 @@
--- What a test uses of the walk that it is handed, and what it answers for one first place.
+-- What a test uses of the walk that it is handed.
 --   IsJoinedTrail o t via    the places of a walk whose part up to the place via, and whose part from there
 --                            on, have the distances of o; each subpath of a subpath as long as its distance
 --                            is as long as its own
---   FindsLeastFrom F i r     None where no pair with the first place i fails; else the failing one with the
---                            least last place
-use Rattle.std.specs.Prelude.{◌≡◌, ◌<◌, ◌≤◌, ◌+◌, ◌^◌, ℕ, length, slice_index, Option, MatchOption}
-use Rattle.road_model.specs.declared.answer.Pair.{Pair}
+use Rattle.std.specs.Prelude.{◌≡◌, ◌<◌, ◌≤◌, ◌^◌, ℕ, length, slice_index}
 use Rattle.road_model.specs.declared.trail.Trail.{Trail}
 use Rattle.road_model.specs.Graph.{Graph, IsVertex}
 use Rattle.road_model.specs.Dist.{NoWalk}
@@ -21,11 +18,3 @@ pub record IsJoinedTrail (o : Graph) (t : Trail) (via : ℕ) : Type 0 where
   pub front : (i j : ℕ) → i ≤ j → j ≤ via → IsDistAt o t i j (between t i j)
   pub back : (i j : ℕ) → via ≤ i → i ≤ j → j < length t.vertices → IsDistAt o t i j (between t i j)
   pub inner : (i a b j : ℕ) → i ≤ a → a ≤ b → b ≤ j → j < length t.vertices → IsDistAt o t i j (between t i j) → IsDistAt o t a b (between t a b)
-
-pub record FindsFrom (F : ℕ → ℕ → ℕ → Type 0) (i : ℕ) (pair : Pair) : Type 0 where
-  pub here : pair.first ≡ i
-  pub fails : F i pair.last pair.distance
-  pub least : (j d : ℕ) → F i j d → pair.last ≤ j
-
-abbrev pub FindsLeastFrom : (ℕ → ℕ → ℕ → Type 0) → ℕ → Option Pair → Type 0
-FindsLeastFrom F i result = MatchOption result ((j d : ℕ) → F i j d → ⊥) (FindsFrom F i)

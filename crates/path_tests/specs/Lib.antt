@@ -1,1 +1,3 @@
 pub mod JoinedTrail
+pub mod Passing
+pub mod Rectangle

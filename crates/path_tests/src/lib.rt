@@ -5,9 +5,10 @@
 #![tactic(auto)]
 
 mod places;
+mod rectangles;
 mod sharing;
 mod stretching;
 
 pub use places::{distance_between, length_between};
 pub use sharing::{shared, within_share};
-pub use stretching::stretch;
+pub use stretching::{is_stretch_bounded, stretch};

@@ -1,16 +1,19 @@
-ghost use Rattle.std.specs.Prelude.{◌≡◌, ◌<◌, ◌+◌, ◌-◌, ◌*◌, length, IfOk};
+ghost use Rattle.std.specs.Prelude.{◌≡◌, ◌<◌, ◌≤◌, ◌+◌, ◌-◌, ◌*◌, ◌^◌, length, IfOk};
 ghost use Rattle.road_model.specs.Tests.{FailsStretch};
 ghost use Rattle.road_model.specs.ViaWalk.{IsViaWalk, FindsLeast, AsksWithin};
-ghost use Rattle.path_tests.specs.JoinedTrail.{IsJoinedTrail, FindsLeastFrom};
+ghost use Rattle.path_tests.specs.JoinedTrail.{IsJoinedTrail};
+ghost use Rattle.path_tests.specs.Passing.{TellsPassing};
+ghost use Rattle.path_tests.specs.Rectangle.{IsWholeRectangle};
 
-use crate::places::{distance_between, length_between};
+use crate::places::distance_between;
+use crate::rectangles::{Rectangle, least_in, passes_in};
 use road_model::{NoMemory, Oracle, Pair, Ratio, Trail};
 
 /// The pair of places whose subpath is stretched too far, with the least first, and of those the least last
 /// place; none where no subpath is. A subpath that ends where it begins is stretched too far.
 ///
-/// Only pairs round the via can be, and each of them is asked until one is: at most the arcs before the via
-/// times the arcs behind it.
+/// Only pairs round the via can be. One question clears a whole rectangle of first and last places, or it is halved:
+/// at most as many questions as the arcs before the via times the arcs after it.
 pub fn stretch<O: Oracle>(
     oracle: &mut O,
     trail: &Trail,
@@ -23,54 +26,55 @@ pub fn stretch<O: Oracle>(
     ensures asks { AsksWithin (O.asked oracle.old) (O.asked oracle.new)
         (via_at * (length trail.now.vertices - 1 - via_at)) }
 {
-    least_stretched(oracle, trail, via_at, epsilon)
+    let Some(whole) = whole_rectangle(trail, via_at) else {
+        return Ok(None);
+    };
+    let distance = distance_between(oracle, trail, whole.low, whole.to)?;
+    let found = least_in(oracle, trail, via_at, epsilon, whole, distance)?;
+    Ok(found)
 }
 
-fn least_stretched<O: Oracle>(
+/// Whether no subpath is stretched too far: true where no pair fails that [`stretch`] looks for, false where one
+/// does.
+///
+/// It asks at most what `stretch` asks, and ends at the first pair that fails.
+pub fn is_stretch_bounded<O: Oracle>(
     oracle: &mut O,
     trail: &Trail,
     via_at: u32,
     epsilon: &Ratio,
-) -> Result<Option<Pair>, NoMemory>
-    requires { IsJoinedTrail (O.graph oracle.old) trail.now via_at }
-    ensures found { IfOk result (FindsLeast (FailsStretch (O.graph oracle.old) epsilon.now trail.now)) }
+) -> Result<bool, NoMemory>
+    requires { IsViaWalk (O.graph oracle.old) trail.now via_at }
+    ensures passes { IfOk result (TellsPassing (FailsStretch (O.graph oracle.old) epsilon.now trail.now)) }
     ensures same { O.graph oracle.new ≡ O.graph oracle.old }
     ensures asks { AsksWithin (O.asked oracle.old) (O.asked oracle.new)
         (via_at * (length trail.now.vertices - 1 - via_at)) }
 {
-    for first in 0..via_at {
-        if let Some(pair) = least_stretched_from(oracle, trail, via_at, epsilon, first)? {
-            return Ok(Some(pair));
-        }
-    }
-    Ok(None)
+    let Some(whole) = whole_rectangle(trail, via_at) else {
+        return Ok(true);
+    };
+    let distance = distance_between(oracle, trail, whole.low, whole.to)?;
+    let passes = passes_in(oracle, trail, via_at, epsilon, whole, distance)?;
+    Ok(passes)
 }
 
-// The same among the pairs with one first place before the via.
-fn least_stretched_from<O: Oracle>(
-    oracle: &mut O,
-    trail: &Trail,
-    via_at: u32,
-    epsilon: &Ratio,
-    first: u32,
-) -> Result<Option<Pair>, NoMemory>
-    requires joined { IsJoinedTrail (O.graph oracle.old) trail.now via_at }
-    requires before { first < via_at }
-    ensures found { IfOk result (FindsLeastFrom (FailsStretch (O.graph oracle.old) epsilon.now trail.now) first) }
-    ensures same { O.graph oracle.new ≡ O.graph oracle.old }
-    ensures asks { AsksWithin (O.asked oracle.old) (O.asked oracle.new)
-        (length trail.now.vertices - 1 - via_at) }
+// The rectangle of all pairs round the via, where there are any.
+fn whole_rectangle(trail: &Trail, via_at: u32) -> Option<Rectangle>
+    requires few { length trail.now.vertices < 2 ^ 32 }
+    requires inside { via_at < length trail.now.vertices }
+    ensures { IsWholeRectangle trail.now via_at result }
 {
     let places = trail.vertices.len() as u32;
-    for last in via_at + 1..places {
-        let distance = distance_between(oracle, trail, first, last)?;
-        if !epsilon.stretches(length_between(trail, first, last), distance) {
-            return Ok(Some(Pair {
-                first,
-                last,
-                distance,
-            }));
-        }
+    if via_at == 0 {
+        return None;
     }
-    Ok(None)
+    if via_at + 1 == places {
+        return None;
+    }
+    Some(Rectangle {
+        low: 0,
+        high: via_at,
+        from: via_at + 1,
+        to: places - 1,
+    })
 }
