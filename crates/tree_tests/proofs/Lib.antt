@@ -1,0 +1,4 @@
+pub mod UpSteps
+pub mod Climbs
+pub mod Tables
+pub mod Repeats

@@ -1,0 +1,8 @@
+//! What the two canonical trees alone say of the path through a vertex: how much it shares with the optimum, and
+//! that it can't be admissible. No path is made.
+#![tactic(auto)]
+
+mod sides;
+mod sums;
+
+pub use sums::SharedSums;
