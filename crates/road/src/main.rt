@@ -19,8 +19,8 @@ fn words(rt: &HostRuntime) -> io::Result<Vec<String>> {
     Ok(words)
 }
 
-/// How a run ends whose words couldn't be read: a word that isn't UTF-8 is no word of a command.
-fn unread(kind: ErrorKind) -> Status
+/// How a run ends whose words couldn't be gathered. A word that isn't UTF-8 is no word of a command.
+fn ends_without_words(kind: ErrorKind) -> Status
     ensures memory { kind ≡ ErrorKind.OutOfMemory → result ≡ Status.NoMemory }
     ensures usage { kind ≢ ErrorKind.OutOfMemory → result ≡ Status.Usage }
 {
@@ -38,7 +38,7 @@ fn main(rt: HostRuntime) -> ExitCode {
             let mut output = StdoutSink::new(&rt);
             run(&rt, rt.alloc(), &words, &mut shelf, &mut input, &mut output)
         }
-        Err(error) => unread(error.kind()),
+        Err(error) => ends_without_words(error.kind()),
     };
     if status != Status::Done {
         let _ = eprintln!(rt; "road: {status}");
