@@ -11,7 +11,7 @@ use Rattle.canonical_trees.proofs.Balls.{dist_below}
 use Rattle.via_search.specs.declared.candidates.Candidate.{Candidate}
 use Rattle.via_search.specs.Candidates.{IsCandidate, FindsCandidate}
 use Rattle.via_search.specs.Through.{HasPathThrough, IsLengthThrough}
-use Rattle.via_search.proofs.ViaPaths.{IsVia-unique, via_length}
+use Rattle.canonical_trees.proofs.ThroughVertex.{IsVia-unique, via_length}
 use Rattle.canonical_trees.proofs.CanonicalExists.{first_of_dist, last_of_dist}
 
 -- an oracle's distance is one of the star, and it isn't long
