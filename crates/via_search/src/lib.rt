@@ -2,9 +2,9 @@
 //! vertex is, or isn't, among these.
 //!
 //! The paths within the stretch bound are found as the plateaus of two trees, without a path being made: the least
-//! vertex of a plateau names its path. Those that share too much are told by sums along the trees. Only what is
-//! left gets its arcs, and is put to the oracle at the place of its name. A verdict is on the path through one
-//! vertex alone.
+//! vertex of a plateau names its path. Those that share too much are told by sums along the trees, and most that
+//! fail a test by the trees alone. Only what is left gets its arcs, and is put to the oracle at the place of its
+//! name. A verdict is on the path through one vertex alone.
 #![tactic(auto)]
 
 mod candidates;

@@ -17,8 +17,9 @@ use std::alloc::Global;
 /// admissible single-via path once, in rank order.
 ///
 /// It takes a search that stops at the target, and two searches up to the stretch bound of the optimum; 48 bytes a
-/// vertex, and 4 bytes an arc of each path that is listed. What is shared is told by sums along the trees, and each
-/// path that shares little is put to the oracle once. An `Err` leaves the oracle as good as before.
+/// vertex, and 4 bytes an arc of each path that is listed. What a path shares is told by sums along the trees, and
+/// most that fail a test by the trees alone; each path that is left is put to the oracle once. An `Err` leaves the
+/// oracle as good as before.
 pub fn plan<O: Oracle>(
     alloc: Global,
     star: &Star,

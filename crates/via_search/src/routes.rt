@@ -19,7 +19,7 @@ use plateau_finder::{Plateau, plateaus_within};
 use road_model::{NoMemory, Optimum, Oracle, Query, Route, RouteList};
 use route_ranking::{order_routes, rank};
 use std::alloc::Global;
-use tree_tests::SharedSums;
+use tree_tests::{SharedSums, refuses_behind};
 
 /// The route of a plateau's path, where it is an alternative. The optimum is known by the target, which is among
 /// the vertices of its plateau alone.
@@ -53,6 +53,9 @@ fn route_of<O: Oracle>(
     }
     let shared = sums.through(plateau.least);
     if !within_share(shared, &query.gamma, optimum.length) {
+        return Ok(None);
+    }
+    if refuses_behind(pair, query, optimum, plateau.last) {
         return Ok(None);
     }
     let Some(candidate) = candidate_of(alloc, pair, plateau.least, bound)? else {

@@ -44,7 +44,7 @@ loop-plateau-preserved g c =
       same = c.route_of.ensures.same ∙ c.loop-plateau.invariant.same;
       counted = counted_both (g.O.Oracle.asked c.args.oracle.now) (g.O.Oracle.asked c.loop-plateau.oracle) (g.O.Oracle.asked c.route_of.new.oracle) c.loop-plateau.invariant.counted c.route_of.ensures.counted;
       asks = (asks_more c.args.star.now c.args.query.now.from c.args.query.now.to c.args.bound c.args.optimum.now.arcs c.args.plateaus.now c.loop-plateau.plateau-index (g.O.Oracle.asked c.args.oracle.now) (g.O.Oracle.asked c.loop-plateau.oracle) (g.O.Oracle.asked c.route_of.new.oracle) c.plateau-item.result
-    (slice_get_read c.args.plateaus.now (length c.args.plateaus.now) c.loop-plateau.plateau-index c.plateau-item.result refl c.loop-plateau-test.true c.plateau-item.is) c.loop-plateau.invariant.asks c.route_of.ensures.asks);
+          (slice_get_read c.args.plateaus.now (length c.args.plateaus.now) c.loop-plateau.plateau-index c.plateau-item.result refl c.loop-plateau-test.true c.plateau-item.is) c.loop-plateau.invariant.asks c.route_of.ensures.asks);
       listed =
           let net = c.args.star.now in
           let q = c.args.query.now in
