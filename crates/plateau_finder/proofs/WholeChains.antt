@@ -13,8 +13,8 @@ use Rattle.canonical_trees.proofs.CanonicalExists.{first_of_dist, last_of_dist}
 use Rattle.canonical_trees.proofs.CanonicalParts.{within_less}
 use Rattle.canonical_trees.proofs.ThroughVertex.{via_parts, via_length}
 use Rattle.plateau_finder.specs.declared.plateau.Plateau.{Plateau}
-use Rattle.plateau_finder.specs.Plateaus.{IsInBoth, IsThrough, IsPlateauOf}
-use Rattle.plateau_finder.specs.Links.{IsLink, IsLinkInside, IsNext, IsPrevious, IsChainFrom, HasLinkInto, IsStart, StartsAt}
+use Rattle.plateau_finder.specs.Plateaus.{IsInBoth, IsThrough, IsPlateauOf, IsListed, IsOwnPlateau}
+use Rattle.plateau_finder.specs.Links.{IsLink, IsLinkInside, IsNext, IsPrevious, IsChainFrom, IsChainBack, HasLinkInto, IsStart, StartsAt}
 use Rattle.plateau_finder.proofs.LinkedVias.{same_place, farther, later_links, earlier_links, link_walk, via_on, via_before}
 
 -- along a link the source is farther, and the target nearer
@@ -275,3 +275,6 @@ same_first ts p a b sound begins_a begins_b h k =
 pub inside_both : (ts : Trees) (v near left : ℕ) → IsDist ts.graph ts.source v (Some near) × IsWithin ts.radius near → IsDist ts.graph v ts.target (Some left) × IsWithin ts.radius left → IsInBoth ts v
 inside_both ts v near left h k =
     record { from = record { distance = near; dist = h.0; within = h.1 }; to = record { distance = left; dist = k.0; within = k.1 } }
+
+pub own_plateau : (ts : Trees) (v : ℕ) (c : Plateau) → IsInBoth ts v → IsChainBack ts v c.first → IsChainFrom ts c → IsOwnPlateau ts v c
+own_plateau ts v c inside back chain = record { inside = inside; is = (λ p via. chain.is p (back.through p via)) }

@@ -9,6 +9,7 @@
 --   ArePlateaus ts bound cs   those of the walks within the bound through the vertices in both balls, each once,
 --                          by rising least vertex; None as the bound is no limit
 --   FindsPlateau ts cs v o   Some: the plateau of the walk through v, one of these; None: v is outside a ball
+--   IsPlateauThrough ts v o  Some: the plateau of the walk through v; None: v is outside a ball
 -- Of a walk that is longer than the radius, some vias may be outside a ball: nothing is said of those.
 use Rattle.std.specs.Prelude.{◌≡◌, ◌<◌, ◌≤◌, ◌⊎◌, ◌+◌, ℕ, List, Option, Some, None, All, AllPairs, Contains}
 use Rattle.road_model.specs.Walk.{walk_length}
@@ -61,3 +62,11 @@ pub record IsPlateauAt (ts : Trees) (cs : List Plateau) (v : ℕ) (c : Plateau) 
 abbrev pub FindsPlateau : Trees → List Plateau → ℕ → Option Plateau → Type 0
 FindsPlateau ts cs v None = IsOutside ts.graph ts.radius ts.source v ⊎ IsOutside ts.graph ts.radius v ts.target
 FindsPlateau ts cs v (Some c) = IsPlateauAt ts cs v c
+
+pub record IsOwnPlateau (ts : Trees) (v : ℕ) (c : Plateau) : Type 0 where
+  pub inside : IsInBoth ts v
+  pub is : (p : List ℕ) → IsThrough ts v p → IsPlateauOf ts p c
+
+abbrev pub IsPlateauThrough : Trees → ℕ → Option Plateau → Type 0
+IsPlateauThrough ts v None = IsOutside ts.graph ts.radius ts.source v ⊎ IsOutside ts.graph ts.radius v ts.target
+IsPlateauThrough ts v (Some c) = IsOwnPlateau ts v c

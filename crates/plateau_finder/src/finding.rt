@@ -1,7 +1,7 @@
 //! All plateaus.
 
 ghost use Rattle.std.specs.Prelude.{◌≡◌, Some, None, IfOk, Contains};
-ghost use Rattle.plateau_finder.specs.Plateaus.{IsInBoth, ArePlateaus, FindsPlateau};
+ghost use Rattle.plateau_finder.specs.Plateaus.{ArePlateaus, FindsPlateau, IsPlateauThrough};
 ghost use Rattle.plateau_finder.specs.Links.{IsChainBack, AreGathered, HasLeast};
 
 use crate::chains::{first_of, plateau_at, plateau_from};
@@ -69,6 +69,21 @@ fn named(list: &[Plateau], least: Vertex) -> Plateau
         }
     }
     unreachable!()
+}
+
+/// The class of a vertex, by the trees alone; none exactly where it is outside a ball. Takes the time of the class's
+/// length, and no memory.
+pub fn plateau_through(pair: &TreePair<'_>, v: Vertex) -> Option<Plateau>
+    ensures { IsPlateauThrough pair.now v result }
+{
+    let Some(_near) = pair.from_label(v) else {
+        return None;
+    };
+    let Some(_left) = pair.to_label(v) else {
+        return None;
+    };
+    let first = first_of(pair, v);
+    Some(plateau_from(pair, first))
 }
 
 /// The class of a vertex; none exactly where it is outside a ball. Takes the time of the class's length and a scan

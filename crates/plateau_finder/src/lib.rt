@@ -13,5 +13,5 @@ mod plateau;
 #[cfg(test)]
 mod tests;
 
-pub use finding::{plateau_of, plateaus, plateaus_within};
+pub use finding::{plateau_of, plateau_through, plateaus, plateaus_within};
 pub use plateau::{Plateau, PlateauList};

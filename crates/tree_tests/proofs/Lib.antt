@@ -2,3 +2,4 @@ pub mod UpSteps
 pub mod Climbs
 pub mod Tables
 pub mod Repeats
+pub mod RefusedPieces

@@ -2,7 +2,9 @@
 //! that it can't be admissible. No path is made.
 #![tactic(auto)]
 
+mod refusals;
 mod sides;
 mod sums;
 
+pub use refusals::refuses_behind;
 pub use sums::SharedSums;

@@ -15,7 +15,8 @@ use Rattle.via_search.specs.declared.judging.Judged.TheVariants.{Passed}
 use Rattle.via_search.specs.Candidates.{IsPosed, IsCandidate}
 use Rattle.via_search.specs.Judging.{IsJudged}
 use Rattle.via_search.specs.Through.{HasPathThrough}
-use Rattle.via_search.proofs.ViaPaths.{via_walk, near_of_admissible}
+use Rattle.canonical_trees.proofs.ThroughVertex.{via_walk}
+use Rattle.via_search.proofs.ViaPaths.{near_of_admissible}
 use Rattle.via_search.proofs.Refusals.{passed_of}
 
 -- no length exceeds itself

@@ -1,14 +1,11 @@
 pub mod Outcomes
 pub mod ViaPaths
 pub mod FewArcs
-pub mod Gathering
-pub mod Sorting
-pub mod SamePaths
 pub mod ViaTrails
 pub mod Refusals
-pub mod Names
-pub mod ListedRoutes
 pub mod Posed
 pub mod PathsThrough
-pub mod LeastVia
 pub mod Judgements
+pub mod AskedSums
+pub mod PlateauPaths
+pub mod ListedRoutes

@@ -1,17 +1,19 @@
 -- The path through a vertex, from the two distances that it is made of.
-use Rattle.std.proofs.Common.{◌≡◌, ℕ, ◌+◌, ◌^◌, ◌<◌, ◌≤◌, ◌++◌, List, Option, Some, None, IfSome, refl, sym, ap, ◌∙◌, subst}
+use Rattle.std.proofs.Common.{◌≡◌, ℕ, ◌+◌, ◌^◌, ◌<◌, ◌≤◌, ◌++◌, List, Option, Some, None, IfSome, refl, sym, ap, ◌∙◌, subst, arith}
 use Rattle.road_model.specs.Graph.{Graph, IsVertex}
 use Rattle.road_model.specs.File.{IsWithinLimits}
 use Rattle.road_model.specs.Walk.{walk_length}
 use Rattle.road_model.specs.Dist.{IsDist, HaveSameDist}
-use Rattle.road_model.specs.Alternatives.{IsVia}
+use Rattle.road_model.specs.Alternatives.{IsVia, IsName}
 use Rattle.forward_star.proofs.Bound.{dists_below}
 use Rattle.canonical_trees.specs.Trees.{Trees}
 use Rattle.canonical_trees.proofs.Balls.{dist_below}
 use Rattle.via_search.specs.declared.candidates.Candidate.{Candidate}
 use Rattle.via_search.specs.Candidates.{IsCandidate, FindsCandidate}
-use Rattle.via_search.specs.Through.{HasPathThrough, IsLengthThrough}
-use Rattle.via_search.proofs.ViaPaths.{IsVia-unique, via_length}
+use Rattle.plateau_finder.specs.Plateaus.{IsInBoth}
+use Rattle.via_search.specs.Through.{NamesPath, HasPathThrough, IsLengthThrough}
+use Rattle.canonical_trees.proofs.ThroughVertex.{via_parts, IsVia-unique, via_length}
+use Rattle.road_model.proofs.Dists.{dist_of_shortest}
 use Rattle.canonical_trees.proofs.CanonicalExists.{first_of_dist, last_of_dist}
 
 -- an oracle's distance is one of the star, and it isn't long
@@ -59,3 +61,18 @@ found_some g s t l v o c h is = subst (λ (x : Option Candidate). FindsCandidate
 
 pub through_some : (g : Graph) (s t v l : ℕ) (o : Option ℕ) → IsLengthThrough g s t v o → o ≡ Some l → HasPathThrough g s t v l
 through_some g s t v l o h is = subst (λ (x : Option ℕ). IsLengthThrough g s t v x) is h
+
+-- within a radius as far as the path is long, its vertex is in both balls, and named
+pub inside_through : (g : Graph) (s t v l : ℕ) → HasPathThrough g s t v l → IsInBoth (record { graph = g; source = s; target = t; radius = Some l }) v
+inside_through g s t v l h =
+    let via = h.through in
+    let parts = via_parts g s t v h.path h.through in
+    let long : l ≡ walk_length g h.path = h.is_length in
+    record {
+      from = record { distance = walk_length g via.front; dist = dist_of_shortest g s v via.front via.first.shortest; within = omega (arith, parts, long) };
+      to = record { distance = walk_length g via.back; dist = dist_of_shortest g v t via.back via.last.shortest; within = omega (arith, parts, long) };
+    }
+
+pub named_through : (g : Graph) (s t v l n : ℕ) (c : Candidate) → c.via ≡ v → IsCandidate g s t c → walk_length g c.arcs ≤ l → NamesPath (record { graph = g; source = s; target = t; radius = Some l }) v n → IsName g s t c.arcs n
+named_through g s t v l n c same own within names =
+    names c.arcs (subst (λ (x : ℕ). IsVia g s t x c.arcs) same own.through) within

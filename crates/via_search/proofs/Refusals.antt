@@ -15,7 +15,8 @@ use Rattle.via_search.specs.declared.judging.Judged.TheVariants.{Long, Shared, L
 use Rattle.via_search.specs.declared.candidates.Candidate.{Candidate}
 use Rattle.via_search.specs.Candidates.{IsPosed, IsCandidate}
 use Rattle.via_search.specs.Judging.{IsLimited, IsJudged}
-use Rattle.via_search.proofs.ViaPaths.{via_walk, near_of_admissible}
+use Rattle.canonical_trees.proofs.ThroughVertex.{via_walk}
+use Rattle.via_search.proofs.ViaPaths.{near_of_admissible}
 
 pub limited_of : (g : Graph) (q : Query) (o : Optimum) (c : Candidate) (sum : ℕ) → IsPosed g q o → IsCandidate g q.from q.to c → Stretches q.epsilon c.length o.length → Allows q.gamma sum o.length → sum ≡ shared g o.arcs c.arcs → IsLimited g q o.arcs c.arcs
 limited_of g q o c sum posed h short part is =

@@ -14,32 +14,9 @@ use Rattle.road_model.proofs.Dists.{IsDist-same, dist_of_shortest}
 use Rattle.road_model.proofs.CanonicalWalks.{IsFirst-unique, IsLast-unique}
 use Rattle.road_model.proofs.Parts.{place_after, sum_after, length-places}
 use Rattle.canonical_trees.specs.Trees.{Trees, IsInside, IsOutside, IsViaPath}
+use Rattle.canonical_trees.proofs.ThroughVertex.{IsVia-unique, via_walk, via_parts, near_of_via, via_length}
 use Rattle.tree_search.specs.Ball.{IsWithin, IsBeyond}
 use Rattle.via_search.specs.Candidates.{IsCandidate, IsNear}
-
-pub IsVia-unique : (g : Graph) (s t v : ℕ) (p q : List ℕ) → IsVia g s t v p → IsVia g s t v q → p ≡ q
-IsVia-unique g s t v p q h k =
-    let front : h.front ≡ k.front = IsFirst-unique g s v h.front k.front h.first k.first in
-    let back : h.back ≡ k.back = IsLast-unique g v t h.back k.back h.last k.last in
-    h.joined ∙ (ap (λ (x : List ℕ). x ++ h.back) front ∙ (ap (λ (x : List ℕ). k.front ++ x) back ∙ sym k.joined))
-
-pub via_walk : (g : Graph) (s t v : ℕ) (p : List ℕ) → IsVia g s t v p → IsWalk g s p t
-via_walk g s t v p h =
-    subst (λ (x : List ℕ). IsWalk g s x t) (sym h.joined)
-    (IsWalk-append g h.front h.back s v t h.first.shortest.walk h.last.shortest.walk)
-
-pub via_parts : (g : Graph) (s t v : ℕ) (p : List ℕ) (h : IsVia g s t v p) → walk_length g p ≡ walk_length g h.front + walk_length g h.back
-via_parts g s t v p h =
-    ap (λ (x : List ℕ). walk_length g x) h.joined ∙ walk_length-append g h.front h.back
-
-pub near_of_via : (g : Graph) (s t v a : ℕ) (p : List ℕ) (h : IsVia g s t v p) → IsDist g s v (Some a) → walk_length g h.front ≡ a
-near_of_via g s t v a p h d =
-    IsDist-same g s v (walk_length g h.front) a (dist_of_shortest g s v h.front h.first.shortest) d
-
-pub via_length : (g : Graph) (s t v a b : ℕ) (p : List ℕ) → IsVia g s t v p → IsDist g s v (Some a) → IsDist g v t (Some b) → walk_length g p ≡ a + b
-via_length g s t v a b p h d e =
-    let back : walk_length g h.back ≡ b = IsDist-same g v t (walk_length g h.back) b (dist_of_shortest g v t h.back h.last.shortest) e in
-    omega (arith, via_parts g s t v p h, near_of_via g s t v a p h d)
 
 -- a path through a vertex outside a ball of the bound is beyond it
 pub beyond_from : (g : Graph) (s t v bound : ℕ) (radius : Option ℕ) (p : List ℕ) → radius ≡ Some bound → IsOutside g radius s v → IsVia g s t v p → bound < walk_length g p

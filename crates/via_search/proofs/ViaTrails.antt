@@ -11,11 +11,13 @@ use Rattle.road_model.specs.Fraction.{Fraction}
 use Rattle.road_model.specs.Places.{sums, trail_of, vertex_at}
 use Rattle.road_model.specs.Tests.{FailsLocal, FailsStretch, NoneFails, IsLeastFailure}
 use Rattle.road_model.specs.ViaWalk.{IsViaWalk, FindsLeast, AsksWithin}
+use Rattle.road_model.specs.Alternatives.{IsVia}
+use Rattle.road_model.proofs.CanonicalWalks.{IsFirst-unique}
 use Rattle.road_model.proofs.Parts.{length-sums, sum_after}
 use Rattle.via_search.specs.declared.candidates.Candidate.{Candidate}
 use Rattle.via_search.specs.Candidates.{IsPosed, IsCandidate}
 use Rattle.via_search.specs.Judging.{StaysCounted}
-use Rattle.via_search.proofs.ViaPaths.{via_walk, near_of_via}
+use Rattle.canonical_trees.proofs.ThroughVertex.{via_walk, near_of_via}
 use Rattle.via_search.proofs.FewArcs.{default_of, place_unique, shortest_few}
 
 pub candidate_walk : (g : Graph) (s t : ℕ) (c : Candidate) → IsCandidate g s t c → IsWalkFrom g s c.arcs
@@ -65,6 +67,11 @@ place_is g q o c t place posed h is lt here =
     let near : get_or (sums g 0 c.arcs) place 0 ≡ c.near = ap (λ (l : List ℕ). get_or l place 0) (sym same) ∙ here in
     place_unique g c.arcs q.from q.to place (length h.through.front) posed.limits.is_graph (via_walk g q.from q.to c.via c.arcs h.through)
     (omega (arith, length-sums g 0 c.arcs)) (front_inside g q.from q.to c h) (near ∙ sym (sum_at_via g q.from q.to c h))
+
+-- so it is the length of any list of arcs that leads to the via canonically
+pub place_of_via : (g : Graph) (q : Query) (o : Optimum) (c : Candidate) (t : Trail) (place : ℕ) → IsPosed g q o → IsCandidate g q.from q.to c → t ≡ trail_of g q.from c.arcs → place < length t.sums → get_or t.sums place 0 ≡ c.near → (h : IsVia g q.from q.to c.via c.arcs) → place ≡ length h.front
+place_of_via g q o c t place posed own is lt here h =
+    place_is g q o c t place posed own is lt here ∙ ap (λ (l : List ℕ). length l) (IsFirst-unique g q.from c.via own.through.front h.front own.through.first h.first)
 
 pub is_via_walk : (g o : Graph) (q : Query) (best : Optimum) (c : Candidate) (t : Trail) (place : ℕ) → IsPosed g q best → HaveSameDist g o → IsCandidate g q.from q.to c → t ≡ trail_of g q.from c.arcs → place < length t.sums → get_or t.sums place 0 ≡ c.near → IsViaWalk o t place
 is_via_walk g o q best c t place posed same h is lt here =

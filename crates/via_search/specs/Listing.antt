@@ -1,20 +1,21 @@
 -- The routes that are listed.
---   IsRouteOf g q o cs k r    Some: the route of the candidate at the place k, an alternative, which is the first
---                             with its path; None: it is no alternative, or one before it has its path
+--   IsRouteOf g q o ts c r   Some: the route of the walk of the plateau c, an alternative, named by c's least
+--                            vertex; None: that walk is no alternative
 use Rattle.std.specs.Prelude.{◌≡◌, ℕ, List, Option, Some, None}
 use Rattle.road_model.specs.declared.answer.Query.{Query}
 use Rattle.road_model.specs.declared.answer.Route.{Route}
 use Rattle.road_model.specs.Graph.{Graph}
 use Rattle.road_model.specs.Alternatives.{IsAlternative}
 use Rattle.road_model.specs.Answers.{IsRoute}
-use Rattle.via_search.specs.declared.candidates.Candidate.{Candidate}
-use Rattle.via_search.specs.Candidates.{arcs_at, IsFirstOfPath, HasEarlier}
+use Rattle.canonical_trees.specs.Trees.{Trees}
+use Rattle.plateau_finder.specs.declared.plateau.Plateau.{Plateau}
+use Rattle.plateau_finder.specs.Plateaus.{IsPlateauOf}
 
-pub record IsFirstRoute (g : Graph) (q : Query) (optimum : List ℕ) (cs : List Candidate) (k : ℕ) (r : Route) : Type 0 where
+pub record IsNamedRoute (g : Graph) (q : Query) (optimum : List ℕ) (ts : Trees) (c : Plateau) (r : Route) : Type 0 where
   pub is_route : IsRoute g q optimum r
-  pub path : r.arcs ≡ arcs_at cs k
-  pub first : IsFirstOfPath cs k
+  pub path : IsPlateauOf ts r.arcs c
+  pub name : r.via ≡ c.least
 
-abbrev pub IsRouteOf : Graph → Query → List ℕ → List Candidate → ℕ → Option Route → Type 0
-IsRouteOf g q optimum cs k None = IsAlternative g q optimum (arcs_at cs k) → HasEarlier cs k
-IsRouteOf g q optimum cs k (Some r) = IsFirstRoute g q optimum cs k r
+abbrev pub IsRouteOf : Graph → Query → List ℕ → Trees → Plateau → Option Route → Type 0
+IsRouteOf g q optimum ts c None = (p : List ℕ) → IsPlateauOf ts p c → IsAlternative g q optimum p → ⊥
+IsRouteOf g q optimum ts c (Some r) = IsNamedRoute g q optimum ts c r

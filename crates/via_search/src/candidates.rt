@@ -1,13 +1,10 @@
-//! The paths that alternatives are looked for among.
+//! The path through a vertex.
 
-ghost use Rattle.std.specs.Prelude.{◌≡◌, Some, IfOk, IsPermutation, AllPairs};
-ghost use Rattle.road_model.specs.Graph.{IsVertex};
-ghost use Rattle.via_search.specs.Candidates.{IsPosed, FindsCandidate, AreCandidates, AreInOrder};
-ghost use Rattle.via_search.specs.Candidates.{IsWithinBound, IsNear, IsNoLater};
+ghost use Rattle.std.specs.Prelude.{◌≡◌, ◌↔◌, Some, IfOk, IsTrue};
+ghost use Rattle.via_search.specs.Candidates.{FindsCandidate};
 
-use canonical_trees::{TreePair, trees, via_path};
-use forward_star::Star;
-use road_model::{ArcList, NoMemory, Optimum, Query, Vertex};
+use canonical_trees::{TreePair, via_path};
+use road_model::{ArcList, ArcNo, NoMemory, Optimum, Vertex};
 use std::alloc::Global;
 
 /// The path through a vertex.
@@ -51,47 +48,16 @@ pub(crate) fn candidate_of(
     }))
 }
 
-/// The candidates of all vertices whose path is within the bound.
-fn gathered(alloc: Global, pair: &TreePair<'_>, bound: u64) -> Result<Vec<Candidate>, NoMemory>
-    requires { pair.now.radius ≡ Some bound }
-    ensures { IfOk result
-        (λ cs. AreCandidates pair.now.graph pair.now.source pair.now.target (IsWithinBound pair.now.graph bound) cs.items) }
+fn are_same(a: &[ArcNo], b: &[ArcNo]) -> bool
+    ensures { IsTrue result ↔ (a.now ≡ b.now) }
 {
-    let mut candidates = Vec::new(alloc);
-    for v in pair.from_members().as_slice() {
-        if let Some(candidate) = candidate_of(alloc, pair, *v, bound)? {
-            candidates.push(candidate)?;
-        }
-    }
-    Ok(candidates)
+    a == b
 }
 
-/// The same candidates by rising length, and those of one length by rising via. So the candidates with one path
-/// stand close together.
-fn in_order(mut candidates: Vec<Candidate>) -> Result<Vec<Candidate>, NoMemory>
-    ensures permutation { IfOk result (λ cs. IsPermutation candidates.items cs.items) }
-    ensures order { IfOk result (λ cs. AllPairs IsNoLater cs.items) }
+pub(crate) fn is_optimum(candidate: &Candidate, optimum: &Optimum) -> bool
+    requires { candidate.now.arcs ≡ optimum.now.arcs → candidate.now.length ≡ optimum.now.length }
+    ensures { IsTrue result ↔ (candidate.now.arcs ≡ optimum.now.arcs) }
 {
-    candidates.sort_by_key(|candidate| (candidate.length, candidate.via))?;
-    Ok(candidates)
-}
-
-/// The candidates of a query, in order.
-pub(crate) fn candidates(
-    alloc: Global,
-    star: &Star,
-    query: &Query,
-    optimum: &Optimum,
-) -> Result<Vec<Candidate>, NoMemory>
-    requires posed { IsPosed star.now query.now optimum.now }
-    requires target { IsVertex star.now.vertices query.now.to }
-    ensures near { IfOk result
-        (λ cs. AreCandidates star.now query.now.from query.now.to
-        (IsNear star.now query.now optimum.now.length) cs.items) }
-    ensures order { IfOk result (λ cs. AreInOrder cs.items) }
-{
-    let bound = query.epsilon.bound(optimum.length);
-    let pair = trees(alloc, star, query.from, query.to, Some(bound))?;
-    let candidates = gathered(alloc, &pair, bound)?;
-    in_order(candidates)
+    candidate.length == optimum.length
+        && are_same(candidate.arcs.as_slice(), optimum.arcs.as_slice())
 }

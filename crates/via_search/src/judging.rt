@@ -3,7 +3,8 @@
 ghost use Rattle.std.specs.Prelude.{◌≡◌, ◌<◌, ◌^◌, Some, IfOk, length, slice_index, Contains};
 ghost use Rattle.road_model.specs.Dist.{HaveSameDist};
 ghost use Rattle.via_search.specs.Candidates.{IsPosed, IsCandidate};
-ghost use Rattle.via_search.specs.Judging.{IsJudged, StaysCounted};
+ghost use Rattle.via_search.specs.Judging.{IsJudged, IsTried, StaysCounted};
+ghost use Rattle.via_search.specs.Asks.{AsksOnce};
 
 use crate::candidates::Candidate;
 use forward_star::Star;
@@ -64,13 +65,49 @@ pub(crate) fn judge<O: Oracle>(
     if !within_share(sum, &query.gamma, optimum.length) {
         return Ok(Judged::Shared(sum));
     }
+    match put_to_oracle(alloc, star, oracle, query, optimum, candidate)? {
+        Tried::Local(pair) => Ok(Judged::Local(pair)),
+        Tried::Stretch(pair) => Ok(Judged::Stretch(pair)),
+        Tried::Passed => Ok(Judged::Passed(sum)),
+    }
+}
+
+/// The first of the tests by questions that a path fails, or that it passes both.
+#[derive(Clone, Copy, Debug)]
+pub(crate) enum Tried {
+    /// A subpath that has to be shortest isn't.
+    Local(Pair),
+    /// A subpath is stretched too far.
+    Stretch(Pair),
+    /// Neither is so.
+    Passed,
+}
+
+/// The tests that ask the oracle. They are put at the place of the candidate's via.
+pub(crate) fn put_to_oracle<O: Oracle>(
+    alloc: Global,
+    star: &Star,
+    oracle: &mut O,
+    query: &Query,
+    optimum: &Optimum,
+    candidate: &Candidate,
+) -> Result<Tried, NoMemory>
+    requires posed { IsPosed star.now query.now optimum.now }
+    requires same { HaveSameDist star.now (O.graph oracle.old) }
+    requires candidate { IsCandidate star.now query.now.from query.now.to candidate.now }
+    ensures tried { IfOk result (IsTried star.now query.now optimum.now.arcs candidate.now.arcs) }
+    ensures same { O.graph oracle.new ≡ O.graph oracle.old }
+    ensures counted { StaysCounted (O.asked oracle.old) (O.asked oracle.new) }
+    ensures asks { AsksOnce star.now query.now.from query.now.to candidate.now.arcs candidate.now.via
+        (O.asked oracle.old) (O.asked oracle.new) }
+{
     let trail = Trail::of(alloc, star, query.from, candidate.arcs.as_slice())?;
     let via_at = place_of(&trail, candidate.near);
     if let Some(pair) = local(oracle, &trail, via_at, &query.alpha, optimum.length)? {
-        return Ok(Judged::Local(pair));
+        return Ok(Tried::Local(pair));
     }
     if let Some(pair) = stretch(oracle, &trail, via_at, &query.epsilon)? {
-        return Ok(Judged::Stretch(pair));
+        return Ok(Tried::Stretch(pair));
     }
-    Ok(Judged::Passed(sum))
+    Ok(Tried::Passed)
 }

@@ -1,16 +1,14 @@
 //! Plans: the optimum of a query, and every alternative to it, in rank order. Verdicts: why the path through a
 //! vertex is, or isn't, among these.
 //!
-//! A candidate is the path through one vertex. All candidates within the stretch bound are found first, so that
-//! the vertices which a path goes through canonically, its class, stand together: the least of them names the
-//! path, and the two farthest apart measure its plateau. Then each path is tested once. A verdict is on one
-//! candidate alone, whose name is found among the vertices of its path.
+//! The paths within the stretch bound are found as the plateaus of two trees, without a path being made: the least
+//! vertex of a plateau names its path. Those that share too much are told by sums along the trees, and most that
+//! fail a test by the trees alone. Only what is left gets its arcs, and is put to the oracle at the place of its
+//! name. A verdict is on the path through one vertex alone.
 #![tactic(auto)]
 
 mod candidates;
-mod classes;
 mod judging;
-mod naming;
 mod planning;
 mod routes;
 mod verdicts;

@@ -5,8 +5,8 @@ ghost use Rattle.road_model.specs.Graph.{IsVertex};
 ghost use Rattle.road_model.specs.Dist.{HaveSameDist};
 ghost use Rattle.road_model.specs.Answers.{IsAnswer};
 ghost use Rattle.via_search.specs.Judging.{StaysCounted};
+ghost use Rattle.via_search.specs.Asks.{AsksForPlan};
 
-use crate::candidates::candidates;
 use crate::routes::alternatives;
 use canonical_trees::optimum;
 use forward_star::Star;
@@ -16,9 +16,10 @@ use std::alloc::Global;
 /// The whole answer of a query: no path exactly where no walk leads there; else the optimum, and every other
 /// admissible single-via path once, in rank order.
 ///
-/// It takes a search that stops at the target, and two searches up to the stretch bound of the optimum, 16 bytes a
-/// vertex, and for each vertex whose path is within that bound 4 bytes an arc of its path. Each path is tested
-/// once, and only those that share little are put to the oracle. An `Err` leaves the oracle as good as before.
+/// It takes a search that stops at the target, and two searches up to the stretch bound of the optimum; 48 bytes a
+/// vertex, and 4 bytes an arc of each path that is listed. What a path shares is told by sums along the trees, and
+/// most that fail a test by the trees alone; each path that is left is put to the oracle once. An `Err` leaves the
+/// oracle as good as before.
 pub fn plan<O: Oracle>(
     alloc: Global,
     star: &Star,
@@ -31,12 +32,12 @@ pub fn plan<O: Oracle>(
     ensures answer { IfOk result (IsAnswer star.now query.now) }
     ensures same { O.graph oracle.new ≡ O.graph oracle.old }
     ensures counted { StaysCounted (O.asked oracle.old) (O.asked oracle.new) }
+    ensures asks { AsksForPlan star.now query.now (O.asked oracle.old) (O.asked oracle.new) }
 {
     let _limits = star.graph();
     let Some(optimum) = optimum(alloc, star, query.from, query.to)? else {
         return Ok(Plan::NoPath);
     };
-    let candidates = candidates(alloc, star, query, &optimum)?;
-    let others = alternatives(alloc, star, oracle, query, &optimum, candidates.as_slice())?;
+    let others = alternatives(alloc, star, oracle, query, &optimum)?;
     Ok(Plan::Found { optimum, others })
 }

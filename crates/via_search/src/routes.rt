@@ -1,68 +1,112 @@
-//! The alternatives among candidates.
+//! The alternatives of a query.
 
-ghost use Rattle.std.specs.Prelude.{◌≡◌, ◌<◌, ◌↔◌, IfOk, IsTrue, length};
+ghost use Rattle.std.specs.Prelude.{◌≡◌, Some, IfOk};
+ghost use Rattle.road_model.specs.Graph.{IsVertex};
 ghost use Rattle.road_model.specs.Dist.{HaveSameDist};
 ghost use Rattle.road_model.specs.Answers.{IsListing};
-ghost use Rattle.via_search.specs.Candidates.{IsPosed, AreCandidates, AreInOrder, IsNear};
+ghost use Rattle.plateau_finder.specs.Plateaus.{IsListed, ArePlateaus};
+ghost use Rattle.via_search.specs.Candidates.{IsPosed, IsBoundOf, pair_of};
 ghost use Rattle.via_search.specs.Judging.{StaysCounted};
+ghost use Rattle.via_search.specs.Asks.{AsksFor, AsksAtMost, AsksForPlan};
 ghost use Rattle.via_search.specs.Listing.{IsRouteOf};
 
-use crate::candidates::Candidate;
-use crate::classes::{are_same, is_first, plateau_of};
-use crate::judging::{Judged, judge};
+use crate::candidates::candidate_of;
+use crate::judging::{Tried, put_to_oracle};
+use canonical_trees::{TreePair, trees};
 use forward_star::Star;
-use road_model::{ArcList, NoMemory, Optimum, Oracle, Query, Route, RouteList};
+use path_tests::within_share;
+use plateau_finder::{Plateau, plateaus_within};
+use road_model::{NoMemory, Optimum, Oracle, Query, Route, RouteList};
 use route_ranking::{order_routes, rank};
 use std::alloc::Global;
+use tree_tests::{SharedSums, refuses_behind};
 
-pub(crate) fn is_optimum(candidate: &Candidate, optimum: &Optimum) -> bool
-    requires { candidate.now.arcs ≡ optimum.now.arcs → candidate.now.length ≡ optimum.now.length }
-    ensures { IsTrue result ↔ (candidate.now.arcs ≡ optimum.now.arcs) }
-{
-    candidate.length == optimum.length
-        && are_same(candidate.arcs.as_slice(), optimum.arcs.as_slice())
-}
-
-/// The route of the candidate at `k`, where it is an alternative and the first with its path.
+/// The route of a plateau's path, where it is an alternative. The optimum is known by the target, which is among
+/// the vertices of its plateau alone.
 fn route_of<O: Oracle>(
     alloc: Global,
     star: &Star,
+    pair: &TreePair<'_>,
     oracle: &mut O,
     query: &Query,
     optimum: &Optimum,
-    candidates: &[Candidate],
-    k: usize,
+    bound: u64,
+    sums: &mut SharedSums<'_>,
+    plateau: &Plateau,
 ) -> Result<Option<Route>, NoMemory>
     requires posed { IsPosed star.now query.now optimum.now }
     requires same { HaveSameDist star.now (O.graph oracle.old) }
-    requires near { AreCandidates star.now query.now.from query.now.to
-        (IsNear star.now query.now optimum.now.length) candidates.now }
-    requires order { AreInOrder candidates.now }
-    requires inside { k < length candidates.now }
+    requires bound { IsBoundOf query.now optimum.now.length bound }
+    requires trees { pair.now ≡ pair_of star.now query.now bound }
+    requires sums { sums.old ≡ record { trees = pair_of star.now query.now bound; optimum = optimum.now.arcs } }
+    requires listed { IsListed (pair_of star.now query.now bound) (Some bound) plateau.now }
     ensures route { IfOk result
-        (IsRouteOf star.now query.now optimum.now.arcs candidates.now k) }
+        (IsRouteOf star.now query.now optimum.now.arcs (pair_of star.now query.now bound) plateau.now) }
+    ensures sums { sums.new ≡ sums.old }
     ensures same { O.graph oracle.new ≡ O.graph oracle.old }
     ensures counted { StaysCounted (O.asked oracle.old) (O.asked oracle.new) }
+    ensures asks { AsksFor star.now query.now.from query.now.to bound optimum.now.arcs plateau.now.least
+        (O.asked oracle.old) (O.asked oracle.new) }
 {
-    let candidate = &candidates[k];
-    if !is_first(candidates, k) {
+    if plateau.last.number() == query.to.number() {
         return Ok(None);
     }
-    if is_optimum(candidate, optimum) {
+    let shared = sums.through(plateau.least);
+    if !within_share(shared, &query.gamma, optimum.length) {
         return Ok(None);
     }
-    let Judged::Passed(shared) = judge(alloc, star, oracle, query, optimum, candidate)? else {
+    if refuses_behind(pair, query, optimum, plateau.last) {
+        return Ok(None);
+    }
+    let Some(candidate) = candidate_of(alloc, pair, plateau.least, bound)? else {
+        unreachable!()
+    };
+    let Tried::Passed = put_to_oracle(alloc, star, oracle, query, optimum, &candidate)? else {
         return Ok(None);
     };
-    let plateau = plateau_of(candidates, k);
     Ok(Some(Route {
-        via: candidate.via,
+        via: plateau.least,
         length: candidate.length,
         shared,
-        plateau,
-        rank: rank(candidate.length, shared, plateau),
-        arcs: ArcList::from_slice(alloc, candidate.arcs.as_slice())?,
+        plateau: plateau.length,
+        rank: rank(candidate.length, shared, plateau.length),
+        arcs: candidate.arcs,
     }))
+}
+
+/// The alternatives among the paths of these plateaus.
+fn routes_of<O: Oracle>(
+    alloc: Global,
+    star: &Star,
+    pair: &TreePair<'_>,
+    oracle: &mut O,
+    query: &Query,
+    optimum: &Optimum,
+    bound: u64,
+    plateaus: &[Plateau],
+) -> Result<RouteList, NoMemory>
+    requires posed { IsPosed star.now query.now optimum.now }
+    requires same { HaveSameDist star.now (O.graph oracle.old) }
+    requires bound { IsBoundOf query.now optimum.now.length bound }
+    requires trees { pair.now ≡ pair_of star.now query.now bound }
+    requires plateaus { ArePlateaus (pair_of star.now query.now bound) (Some bound) plateaus.now }
+    ensures listing { IfOk result (IsListing star.now query.now optimum.now.arcs) }
+    ensures same { O.graph oracle.new ≡ O.graph oracle.old }
+    ensures counted { StaysCounted (O.asked oracle.old) (O.asked oracle.new) }
+    ensures asks { AsksAtMost star.now query.now.from query.now.to bound optimum.now.arcs
+        (O.asked oracle.old) (O.asked oracle.new) }
+{
+    let mut sums = SharedSums::new(alloc, pair, &optimum.arcs)?;
+    let mut routes = RouteList::new(alloc);
+    for plateau in plateaus {
+        if let Some(route) = route_of(
+            alloc, star, pair, oracle, query, optimum, bound, &mut sums, plateau,
+        )? {
+            routes.push(route)?;
+        }
+    }
+    let routes = order_routes(routes)?;
+    Ok(routes)
 }
 
 /// All alternatives, in order.
@@ -72,22 +116,27 @@ pub(crate) fn alternatives<O: Oracle>(
     oracle: &mut O,
     query: &Query,
     optimum: &Optimum,
-    candidates: &[Candidate],
 ) -> Result<RouteList, NoMemory>
     requires posed { IsPosed star.now query.now optimum.now }
+    requires target { IsVertex star.now.vertices query.now.to }
     requires same { HaveSameDist star.now (O.graph oracle.old) }
-    requires near { AreCandidates star.now query.now.from query.now.to
-        (IsNear star.now query.now optimum.now.length) candidates.now }
-    requires order { AreInOrder candidates.now }
     ensures listing { IfOk result (IsListing star.now query.now optimum.now.arcs) }
     ensures same { O.graph oracle.new ≡ O.graph oracle.old }
     ensures counted { StaysCounted (O.asked oracle.old) (O.asked oracle.new) }
+    ensures asks { AsksForPlan star.now query.now (O.asked oracle.old) (O.asked oracle.new) }
 {
-    let mut routes = RouteList::new(alloc);
-    for k in 0..candidates.len() {
-        if let Some(route) = route_of(alloc, star, oracle, query, optimum, candidates, k)? {
-            routes.push(route)?;
-        }
-    }
-    order_routes(routes)
+    let bound = query.epsilon.bound(optimum.length);
+    let pair = trees(alloc, star, query.from, query.to, Some(bound))?;
+    let plateaus = plateaus_within(alloc, &pair, bound)?;
+    let routes = routes_of(
+        alloc,
+        star,
+        &pair,
+        oracle,
+        query,
+        optimum,
+        bound,
+        plateaus.as_slice(),
+    )?;
+    Ok(routes)
 }

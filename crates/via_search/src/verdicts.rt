@@ -7,14 +7,14 @@ ghost use Rattle.road_model.specs.Fraction.{Stretches};
 ghost use Rattle.road_model.specs.Verdicts.{IsVerdict, IsVerdictOf};
 ghost use Rattle.via_search.specs.Candidates.{IsPosed};
 ghost use Rattle.via_search.specs.Judging.{StaysCounted};
-ghost use Rattle.via_search.specs.Through.{HasPathThrough, IsLengthThrough};
+ghost use Rattle.via_search.specs.Through.{HasPathThrough, IsLengthThrough, NamesPath};
+ghost use Rattle.plateau_finder.specs.Plateaus.{IsInBoth};
 
-use crate::candidates::candidate_of;
+use crate::candidates::{candidate_of, is_optimum};
 use crate::judging::{Judged, judge};
-use crate::naming::name_of;
-use crate::routes::is_optimum;
-use canonical_trees::{optimum, trees};
+use canonical_trees::{TreePair, optimum, trees};
 use forward_star::Star;
+use plateau_finder::plateau_through;
 use road_model::{NoMemory, Optimum, Oracle, Query, Verdict, Vertex};
 use std::alloc::Global;
 
@@ -62,6 +62,17 @@ fn length_through<O: Oracle>(
     Ok(Some(near + left))
 }
 
+/// The name of the path through a vertex: the least vertex of its plateau.
+fn name_of(pair: &TreePair<'_>, via: Vertex) -> Vertex
+    requires { IsInBoth pair.now via }
+    ensures { NamesPath pair.now via result }
+{
+    let Some(plateau) = plateau_through(pair, via) else {
+        unreachable!()
+    };
+    plateau.least
+}
+
 /// The verdict on a vertex whose path is `length` long, within the stretch bound. The trees reach no farther than
 /// the path does.
 fn verdict_on_path<O: Oracle>(
@@ -94,7 +105,7 @@ fn verdict_on_path<O: Oracle>(
         Judged::Shared(sum) => Ok(Verdict::Shared(sum)),
         Judged::Local(failing) => Ok(Verdict::Local(failing)),
         Judged::Stretch(failing) => Ok(Verdict::Stretch(failing)),
-        Judged::Passed(_) => Ok(Verdict::Listed(name_of(alloc, &pair, &candidate)?)),
+        Judged::Passed(_) => Ok(Verdict::Listed(name_of(&pair, via))),
     }
 }
 

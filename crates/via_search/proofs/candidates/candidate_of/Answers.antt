@@ -1,5 +1,6 @@
 use Rattle.std.proofs.Common.{refl, arith}
-use Rattle.via_search.proofs.ViaPaths.{beyond_from, beyond_to, via_length, via_found, candidate_made}
+use Rattle.canonical_trees.proofs.ThroughVertex.{via_length}
+use Rattle.via_search.proofs.ViaPaths.{beyond_from, beyond_to, via_found, candidate_made}
 use Rattle.via_search.proofs.candidates.candidate_of.Goals as goal
 
 pub returns-in_default : goal.returns-in_default

@@ -1,29 +1,25 @@
-use Rattle.std.proofs.Common.{◌∙◌, arith}
-use Rattle.via_search.proofs.Outcomes.{IfOk-both}
-use Rattle.via_search.proofs.ViaTrails.{counted_both}
-use Rattle.via_search.proofs.ListedRoutes.{listed_none, listed_some, listing_of}
+use Rattle.std.proofs.Common.{◌≡◌, ◌∙◌, Some, List, sym, subst}
+use Rattle.canonical_trees.specs.Trees.{Trees}
+use Rattle.plateau_finder.specs.declared.plateau.Plateau.{Plateau}
+use Rattle.plateau_finder.specs.Plateaus.{ArePlateaus}
+use Rattle.via_search.specs.Candidates.{pair_of}
+use Rattle.via_search.proofs.AskedSums.{asks_for_plan}
 use Rattle.via_search.proofs.routes.alternatives.Goals as goal
-use Rattle.via_search.proofs.routes.alternatives.Goals.{in-Some+in_ok-push, in_default}
 
-pub loop-k-preserved : goal.loop-k-preserved
-loop-k-preserved g c = record {
-  same = c.route_of.ensures.same ∙ c.loop-k.invariant.same;
-  counted = counted_both (g.O.Oracle.asked c.args.oracle.now) (g.O.Oracle.asked c.loop-k.oracle) (g.O.Oracle.asked c.route_of.new.oracle) c.loop-k.invariant.counted c.route_of.ensures.counted;
-  listed =
-      let net = c.args.star.now in
-      let q = c.args.query.now in
-      let o = c.args.optimum.now.arcs in
-      let cs = c.args.candidates.now in
-      elim c.match-branch-2.branch [
-        | in-Some+in_ok-push w ↦
-            listed_some net q o cs c.loop-k.k c.loop-k.routes c.match-branch-2.routes c.in_ok-route.field-0 w.in-Some.route c.loop-k.invariant.listed c.in_ok-route.ensures.route w.in-Some.is (w.routes-is ∙ w.in_ok-push.ensures.ok)
-        | in_default w ↦
-            listed_none net q o cs c.loop-k.k c.loop-k.routes c.match-branch-2.routes c.in_ok-route.field-0 c.loop-k.invariant.listed c.in_ok-route.ensures.route w.in_default.is w.routes-is
-      ];
-}
+pub routes_of-requires-clause-bound : goal.routes_of-requires-clause-bound
+routes_of-requires-clause-bound g c = record { within = c.bound-bound.ensures.within; greatest = c.bound-bound.ensures.greatest }
 
-pub returns-clause-listing : goal.returns-clause-listing
-returns-clause-listing g c =
-    IfOk-both c.order_routes.result _ _ _
-    (λ ys moved order. listing_of c.args.star.now c.args.query.now c.args.optimum.now c.args.candidates.now c.loop-k.k c.loop-k.routes ys c.requires.posed c.requires.near (omega arith) c.loop-k.invariant.listed moved order)
-    c.order_routes.ensures.permutation c.order_routes.ensures.order
+pub routes_of-requires-clause-plateaus : goal.routes_of-requires-clause-plateaus
+routes_of-requires-clause-plateaus g c =
+    subst (λ (l : List Plateau). ArePlateaus (pair_of c.args.star.now c.args.query.now c.bound-bound.result) (Some c.bound-bound.result) l) (sym c.as_slice.ensures)
+    (subst (λ (ts : Trees). ArePlateaus ts (Some c.bound-bound.result) c.in_ok-plateaus.plateaus) c.in_ok-pair.ensures c.in_ok-plateaus.ensures)
+
+pub returns-in_err-routes-clause-asks : goal.returns-in_err-routes-clause-asks
+returns-in_err-routes-clause-asks g c =
+    asks_for_plan c.args.star.now c.args.query.now c.args.optimum.now c.bound-bound.result (g.O.Oracle.asked c.args.oracle.now) (g.O.Oracle.asked c.routes_of.new.oracle) c.requires.posed
+    (record { within = c.bound-bound.ensures.within; greatest = c.bound-bound.ensures.greatest }) c.routes_of.ensures.asks
+
+pub returns-clause-asks : goal.returns-clause-asks
+returns-clause-asks g c =
+    asks_for_plan c.args.star.now c.args.query.now c.args.optimum.now c.bound-bound.result (g.O.Oracle.asked c.args.oracle.now) (g.O.Oracle.asked c.routes_of.new.oracle) c.requires.posed
+    (record { within = c.bound-bound.ensures.within; greatest = c.bound-bound.ensures.greatest }) c.routes_of.ensures.asks

@@ -1,57 +1,124 @@
-use Rattle.std.proofs.Common.{List, ℕ, ◌∙◌, refl, subst}
+use Rattle.std.proofs.Common.{◌≡◌, ◌∙◌, Some, None, refl, sym, ap, subst, arith}
 use Rattle.std.proofs.lemmas.Bool.{iff_false}
-use Rattle.road_model.specs.Alternatives.{IsAdmissible}
-use Rattle.via_search.specs.Candidates.{IsNear}
-use Rattle.via_search.proofs.ViaPaths.{via_walk}
-use Rattle.via_search.proofs.SamePaths.{read_at, has_read, arcs_of_read}
-use Rattle.via_search.proofs.Refusals.{refused, passed_of, shared_part}
-use Rattle.via_search.proofs.Names.{candidate_at, plateau_part}
-use Rattle.via_search.proofs.ListedRoutes.{route_made}
+use Rattle.road_model.specs.declared.answer.Query.{Query}
+use Rattle.road_model.specs.Walk.{walk_length}
+use Rattle.canonical_trees.specs.Trees.{Trees, IsInside}
+use Rattle.via_search.proofs.PathsThrough.{found_here, found_some}
+use Rattle.via_search.proofs.PlateauPaths.{not_optimum_route, shares_too_much, fails_a_test, has_candidate, passes, named_of, short_of, other_of, plateau_fits, trees_of, never_listed, sum_here, sum_fits, tried_passed, route_made}
+use Rattle.via_search.proofs.AskedSums.{asks_named}
 use Rattle.via_search.proofs.routes.route_of.Goals as goal
 
-pub returns-in_default-clause-route : goal.returns-in_default-clause-route
-returns-in_default-clause-route g c = λ alternative.
-    let net = c.args.star.now in
-    let q = c.args.query.now in
-    let o = c.args.optimum.now in
-    let cs = c.args.candidates.now in
-    let x = c.index-candidates-k.result in
-    let here = read_at cs c.args.k x c.requires.inside c.index-candidates-k.is in
-    let own = candidate_at net q.from q.to (IsNear net q o.length) cs x c.requires.near (has_read cs c.args.k x here) in
-    let admissible = subst (λ (p : List ℕ). IsAdmissible c.args.star.now c.args.query.now c.args.optimum.now.arcs p) (arcs_of_read cs c.args.k x here) alternative.admissible in
-    absurd (refused net q o.arcs x.arcs c.in_ok-shared.field-0 c.requires.posed.best.0 (via_walk net q.from q.to x.via x.arcs own.through) c.in_default.not-Passed c.in_ok-shared.ensures.judged admissible)
+pub returns-then-number-clause-route : goal.returns-then-number-clause-route
+returns-then-number-clause-route g c =
+    not_optimum_route c.args.star.now c.args.query.now c.args.optimum.now c.args.bound c.args.plateau.now c.requires.posed
+    (omega (arith, c.number.ensures.value, c.number-2.ensures.value, c.if-number.true))
 
-pub rank-requires-clause-part : goal.rank-requires-clause-part
-rank-requires-clause-part g c =
-    let net = c.args.star.now in
-    let q = c.args.query.now in
-    let o = c.args.optimum.now in
-    let cs = c.args.candidates.now in
-    let x = c.index-candidates-k.result in
-    let here = read_at cs c.args.k x c.requires.inside c.index-candidates-k.is in
-    let own = candidate_at net q.from q.to (IsNear net q o.length) cs x c.requires.near (has_read cs c.args.k x here) in
-    let passed = passed_of net q o.arcs x.arcs c.in_ok-shared.field-0 c.in-Passed.shared c.in_ok-shared.ensures.judged c.in-Passed.is in
-    shared_part net q o x c.in-Passed.shared c.requires.posed own passed.0
+pub returns-then-not-within_share-clause-route : goal.returns-then-not-within_share-clause-route
+returns-then-not-within_share-clause-route g c =
+    shares_too_much c.args.star.now c.args.query.now c.args.optimum.now c.args.bound c.through-shared.result c.args.plateau.now c.args.sums.now
+    c.requires.posed c.requires.bound c.requires.sums c.through-shared.ensures.sum (iff_false c.within_share.ensures c.if-not-within_share.true)
 
-pub rank-requires-clause-inside : goal.rank-requires-clause-inside
-rank-requires-clause-inside g c =
+pub refuses_behind-requires : goal.refuses_behind-requires
+refuses_behind-requires g c =
+    let inside = c.requires.listed.is.last_inside in
+    record {
+      trees = trees_of c.args.star.now c.args.query.now c.args.bound c.args.pair.now c.requires.trees;
+      length = subst (λ (ts : Trees). c.args.optimum.now.length ≡ walk_length ts.graph c.args.optimum.now.arcs) (sym c.requires.trees) c.requires.posed.best.1;
+      from = subst (λ (ts : Trees). IsInside ts.graph ts.radius ts.source c.args.plateau.now.last) (sym c.requires.trees) c.requires.listed.is.last_inside.from;
+      to = subst (λ (ts : Trees). IsInside ts.graph ts.radius c.args.plateau.now.last ts.target) (sym c.requires.trees) c.requires.listed.is.last_inside.to;
+    }
+
+pub returns-then-refuses_behind-clause-route : goal.returns-then-refuses_behind-clause-route
+returns-then-refuses_behind-clause-route g c =
+    never_listed c.args.star.now c.args.query.now c.args.optimum.now c.args.bound c.args.plateau.now c.args.pair.now c.requires.trees (c.refuses_behind.ensures c.if-refuses_behind.true)
+
+pub candidate_of-requires : goal.candidate_of-requires
+candidate_of-requires g c = ap (λ (ts : Trees). ts.radius) c.requires.trees
+
+pub unreachable-requires : goal.unreachable-requires
+unreachable-requires g c =
+    has_candidate c.args.star.now c.args.query.now c.args.bound c.args.plateau.now c.in_ok-candidate.field-0 c.requires.listed
+    (found_here c.args.pair.now c.args.star.now c.args.query.now.from c.args.query.now.to (Some c.args.bound) c.args.bound c.args.plateau.now.least c.in_ok-candidate.field-0 c.requires.trees c.in_ok-candidate.ensures) c.in_default.is
+
+pub returns-in_err-put_to_oracle-clause-asks : goal.returns-in_err-put_to_oracle-clause-asks
+returns-in_err-put_to_oracle-clause-asks g c =
     let net = c.args.star.now in
     let q = c.args.query.now in
     let o = c.args.optimum.now in
-    let cs = c.args.candidates.now in
-    let x = c.index-candidates-k.result in
-    let here = read_at cs c.args.k x c.requires.inside c.index-candidates-k.is in
-    plateau_part net q.from q.to (IsNear net q o.length) cs c.args.k c.plateau_of-plateau.result x c.requires.near here c.plateau_of-plateau.ensures
+    let x = c.in-Some.candidate in
+    let found = found_some c.args.star.now c.args.query.now.from c.args.query.now.to c.args.bound c.args.plateau.now.least c.in_ok-candidate.field-0 c.in-Some.candidate
+    (found_here c.args.pair.now c.args.star.now c.args.query.now.from c.args.query.now.to (Some c.args.bound) c.args.bound c.args.plateau.now.least c.in_ok-candidate.field-0 c.requires.trees c.in_ok-candidate.ensures) c.in-Some.is in
+    let own = passes c.args.star.now c.args.query.now c.args.optimum.now c.args.bound c.args.plateau.now c.in-Some.candidate c.requires.posed c.requires.listed found.0 found.1
+    (λ (e : c.args.plateau.now.last ≡ c.args.query.now.to). c.if-number.false (c.number.ensures.value ∙ (e ∙ sym c.number-2.ensures.value))) in
+    asks_named net q.from q.to c.args.bound o.arcs x.arcs c.args.plateau.now.least x.via (g.O.Oracle.asked c.args.oracle.now) (g.O.Oracle.asked c.put_to_oracle.new.oracle)
+    (named_of net q o c.args.bound c.args.plateau.now x own) (short_of net q o c.args.bound c.args.plateau.now x own) (other_of net q o c.args.bound c.args.plateau.now x own) own.via c.put_to_oracle.ensures.asks
+
+pub returns-in_default-2-clause-route : goal.returns-in_default-2-clause-route
+returns-in_default-2-clause-route g c =
+    let net = c.args.star.now in
+    let q = c.args.query.now in
+    let o = c.args.optimum.now in
+    let x = c.in-Some.candidate in
+    let found = found_some c.args.star.now c.args.query.now.from c.args.query.now.to c.args.bound c.args.plateau.now.least c.in_ok-candidate.field-0 c.in-Some.candidate
+    (found_here c.args.pair.now c.args.star.now c.args.query.now.from c.args.query.now.to (Some c.args.bound) c.args.bound c.args.plateau.now.least c.in_ok-candidate.field-0 c.requires.trees c.in_ok-candidate.ensures) c.in-Some.is in
+    let own = passes c.args.star.now c.args.query.now c.args.optimum.now c.args.bound c.args.plateau.now c.in-Some.candidate c.requires.posed c.requires.listed found.0 found.1
+    (λ (e : c.args.plateau.now.last ≡ c.args.query.now.to). c.if-number.false (c.number.ensures.value ∙ (e ∙ sym c.number-2.ensures.value))) in
+    fails_a_test net q o c.args.bound c.args.plateau.now x c.in_ok-put_to_oracle.field-0 found.0 found.1 c.in_default-2.not-Passed c.in_ok-put_to_oracle.ensures.tried
+
+pub returns-in_default-2-clause-asks : goal.returns-in_default-2-clause-asks
+returns-in_default-2-clause-asks g c =
+    let net = c.args.star.now in
+    let q = c.args.query.now in
+    let o = c.args.optimum.now in
+    let x = c.in-Some.candidate in
+    let found = found_some c.args.star.now c.args.query.now.from c.args.query.now.to c.args.bound c.args.plateau.now.least c.in_ok-candidate.field-0 c.in-Some.candidate
+    (found_here c.args.pair.now c.args.star.now c.args.query.now.from c.args.query.now.to (Some c.args.bound) c.args.bound c.args.plateau.now.least c.in_ok-candidate.field-0 c.requires.trees c.in_ok-candidate.ensures) c.in-Some.is in
+    let own = passes c.args.star.now c.args.query.now c.args.optimum.now c.args.bound c.args.plateau.now c.in-Some.candidate c.requires.posed c.requires.listed found.0 found.1
+    (λ (e : c.args.plateau.now.last ≡ c.args.query.now.to). c.if-number.false (c.number.ensures.value ∙ (e ∙ sym c.number-2.ensures.value))) in
+    asks_named net q.from q.to c.args.bound o.arcs x.arcs c.args.plateau.now.least x.via (g.O.Oracle.asked c.args.oracle.now) (g.O.Oracle.asked c.put_to_oracle.new.oracle)
+    (named_of net q o c.args.bound c.args.plateau.now x own) (short_of net q o c.args.bound c.args.plateau.now x own) (other_of net q o c.args.bound c.args.plateau.now x own) own.via c.put_to_oracle.ensures.asks
+
+pub rank-requires : goal.rank-requires
+rank-requires g c =
+    let net = c.args.star.now in
+    let q = c.args.query.now in
+    let o = c.args.optimum.now in
+    let x = c.in-Some.candidate in
+    let found = found_some c.args.star.now c.args.query.now.from c.args.query.now.to c.args.bound c.args.plateau.now.least c.in_ok-candidate.field-0 c.in-Some.candidate
+    (found_here c.args.pair.now c.args.star.now c.args.query.now.from c.args.query.now.to (Some c.args.bound) c.args.bound c.args.plateau.now.least c.in_ok-candidate.field-0 c.requires.trees c.in_ok-candidate.ensures) c.in-Some.is in
+    let own = passes c.args.star.now c.args.query.now c.args.optimum.now c.args.bound c.args.plateau.now c.in-Some.candidate c.requires.posed c.requires.listed found.0 found.1
+    (λ (e : c.args.plateau.now.last ≡ c.args.query.now.to). c.if-number.false (c.number.ensures.value ∙ (e ∙ sym c.number-2.ensures.value))) in
+    let sum = sum_here c.args.star.now c.args.query.now c.args.optimum.now c.args.bound c.through-shared.result c.args.plateau.now c.in-Some.candidate c.args.sums.now c.requires.sums c.through-shared.ensures.sum own in
+    record {
+      short = found.1.short;
+      part = sum_fits net q o c.args.bound c.through-shared.result c.args.plateau.now x own sum;
+      inside = plateau_fits net q o c.args.bound c.args.plateau.now x own;
+    }
 
 pub returns-clause-route : goal.returns-clause-route
 returns-clause-route g c =
     let net = c.args.star.now in
     let q = c.args.query.now in
     let o = c.args.optimum.now in
-    let cs = c.args.candidates.now in
-    let x = c.index-candidates-k.result in
-    let here = read_at cs c.args.k x c.requires.inside c.index-candidates-k.is in
-    let passed = passed_of net q o.arcs x.arcs c.in_ok-shared.field-0 c.in-Passed.shared c.in_ok-shared.ensures.judged c.in-Passed.is in
-    route_made net q o cs c.args.k c.in-Passed.shared c.plateau_of-plateau.result x _ c.requires.near c.requires.order here c.if-not-is_first.ensures
-    (iff_false c.is_optimum.ensures c.if-is_optimum.false) passed c.plateau_of-plateau.ensures
-    refl refl refl refl c.rank.ensures (c.in_ok-from_slice.ensures ∙ c.as_slice.ensures)
+    let x = c.in-Some.candidate in
+    let found = found_some c.args.star.now c.args.query.now.from c.args.query.now.to c.args.bound c.args.plateau.now.least c.in_ok-candidate.field-0 c.in-Some.candidate
+    (found_here c.args.pair.now c.args.star.now c.args.query.now.from c.args.query.now.to (Some c.args.bound) c.args.bound c.args.plateau.now.least c.in_ok-candidate.field-0 c.requires.trees c.in_ok-candidate.ensures) c.in-Some.is in
+    let own = passes c.args.star.now c.args.query.now c.args.optimum.now c.args.bound c.args.plateau.now c.in-Some.candidate c.requires.posed c.requires.listed found.0 found.1
+    (λ (e : c.args.plateau.now.last ≡ c.args.query.now.to). c.if-number.false (c.number.ensures.value ∙ (e ∙ sym c.number-2.ensures.value))) in
+    let sum = sum_here c.args.star.now c.args.query.now c.args.optimum.now c.args.bound c.through-shared.result c.args.plateau.now c.in-Some.candidate c.args.sums.now c.requires.sums c.through-shared.ensures.sum own in
+    route_made net q o c.args.bound c.through-shared.result c.args.plateau.now x _ c.requires.posed c.requires.bound own
+    (tried_passed net q o.arcs x.arcs c.in_ok-put_to_oracle.field-0 c.in-Passed.is c.in_ok-put_to_oracle.ensures.tried) sum (c.within_share.ensures.0 c.if-not-within_share.false)
+    refl refl refl refl c.rank.ensures refl
+
+pub returns-clause-asks : goal.returns-clause-asks
+returns-clause-asks g c =
+    let net = c.args.star.now in
+    let q = c.args.query.now in
+    let o = c.args.optimum.now in
+    let x = c.in-Some.candidate in
+    let found = found_some c.args.star.now c.args.query.now.from c.args.query.now.to c.args.bound c.args.plateau.now.least c.in_ok-candidate.field-0 c.in-Some.candidate
+    (found_here c.args.pair.now c.args.star.now c.args.query.now.from c.args.query.now.to (Some c.args.bound) c.args.bound c.args.plateau.now.least c.in_ok-candidate.field-0 c.requires.trees c.in_ok-candidate.ensures) c.in-Some.is in
+    let own = passes c.args.star.now c.args.query.now c.args.optimum.now c.args.bound c.args.plateau.now c.in-Some.candidate c.requires.posed c.requires.listed found.0 found.1
+    (λ (e : c.args.plateau.now.last ≡ c.args.query.now.to). c.if-number.false (c.number.ensures.value ∙ (e ∙ sym c.number-2.ensures.value))) in
+    asks_named net q.from q.to c.args.bound o.arcs x.arcs c.args.plateau.now.least x.via (g.O.Oracle.asked c.args.oracle.now) (g.O.Oracle.asked c.put_to_oracle.new.oracle)
+    (named_of net q o c.args.bound c.args.plateau.now x own) (short_of net q o c.args.bound c.args.plateau.now x own) (other_of net q o c.args.bound c.args.plateau.now x own) own.via c.put_to_oracle.ensures.asks
