@@ -1,0 +1,3 @@
+pub mod Hills
+pub mod Runs
+pub mod Lengths

@@ -1,0 +1,4 @@
+//! A customisable contraction hierarchy of a road graph.
+#![tactic(auto)]
+
+mod push;
