@@ -1,13 +1,7 @@
-// A library with one function.
+//! The order in which a hierarchy contracts the vertices of a road graph.
 #![tactic(auto)]
 
-ghost use Rattle.std.specs.Prelude.{◌≡◌};
-ghost use Rattle.contraction_order.specs.Echo.{echo_of};
+mod order;
+mod taking;
 
-// The `ensures` clause is the contract: what `echo` returns is `echo_of` of its argument, a definition
-// in `specs/Echo.antt`, which a caller's clause can cite too.
-pub fn echo(x: usize) -> usize
-    ensures { result ≡ echo_of x }
-{
-    x
-}
+pub use order::{Order, order_of};

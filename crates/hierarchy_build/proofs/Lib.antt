@@ -1,3 +1,4 @@
 pub mod Hills
 pub mod Runs
 pub mod Pushes
+pub mod Arcs

@@ -100,36 +100,28 @@ lowered_falls from xs k to inside le =
           (lowered_cases xs k to i inside));
     }
 
--- an upward link lowered to the way over a lower rank
-rise_lowered : (g : Graph) (order : List ℕ) (n : ℕ) (first head up down : List ℕ) (v i j k : ℕ) → CanPush n first head up down → v < n → InSpan first v i → InSpan first v j → IsAcross first head i j k → AreWalks g order n first head up down → AreWalks g order n first head (lowered up k (slice_index down i + slice_index up j)) down
-rise_lowered g order n first head up down v i j k can is_v at_i at_j across w =
-    let inside : slice_index head i < n = head_inside n first head v i can.shape is_v at_i in
-    let there : k < length up = omega (arith, place_inside n first head (slice_index head i) k can.shape inside across.span, can.lengths.up_size) in
+-- an upward link lowered to a length that is that of a walk, if it is one at all
+pub rise_lowered_to : (g : Graph) (order : List ℕ) (n : ℕ) (first head up down : List ℕ) (v k to : ℕ) → IsShape n first head → v < n → InSpan first v k → k < length up → (to < no_link → HasWalk g (slice_index order v) (slice_index order (slice_index head k)) to) → AreWalks g order n first head up down → AreWalks g order n first head (lowered up k to) down
+rise_lowered_to g order n first head up down v k to s is_v at there new w =
     record {
       rise = (λ a c is_a span real.
           ⊎_elim
-          (λ (same : slice_index (lowered up k (slice_index down i + slice_index up j)) c ≡ slice_index up c).
+          (λ (same : slice_index (lowered up k to) c ≡ slice_index up c).
           let old : HasWalk g (slice_index order a) (slice_index order (slice_index head c)) (slice_index up c) = w.rise a c is_a span (omega arith) in
           subst (λ (x : ℕ). HasWalk g (slice_index order a) (slice_index order (slice_index head c)) x) (sym same) old)
-          (λ (new : (c ≡ k) × (slice_index (lowered up k (slice_index down i + slice_index up j)) c ≡ slice_index down i + slice_index up j) × (slice_index down i + slice_index up j ≤ slice_index up c)).
-          let sum = new.1 in
-          let rank : slice_index head i ≡ a = one_run n first head (slice_index head i) a k can.shape inside is_a across.span (subst (λ (x : ℕ). InSpan first a x) new.0 span) in
-          let leads : slice_index head j ≡ slice_index head c = sym across.is ∙ ap (λ (x : ℕ). slice_index head x) (sym new.0) in
-          let back : HasWalk g (slice_index order (slice_index head i)) (slice_index order v) (slice_index down i) = w.fall v i is_v at_i (omega arith) in
-          let on : HasWalk g (slice_index order v) (slice_index order (slice_index head j)) (slice_index up j) = w.rise v j is_v at_j (omega arith) in
-          let both = HasWalk-joined g (slice_index order (slice_index head i)) (slice_index order v) (slice_index order (slice_index head j)) (slice_index down i) (slice_index up j) back on in
-          subst (λ (x : ℕ). HasWalk g (slice_index order a) (slice_index order (slice_index head c)) x) (sym new.1)
-          (subst (λ (x : ℕ). HasWalk g (slice_index order x) (slice_index order (slice_index head c)) (slice_index down i + slice_index up j)) rank
-          (subst (λ (x : ℕ). HasWalk g (slice_index order (slice_index head i)) (slice_index order x) (slice_index down i + slice_index up j)) leads both)))
-          (lowered_cases up k (slice_index down i + slice_index up j) c there));
+          (λ (case : (c ≡ k) × (slice_index (lowered up k to) c ≡ to) × (to ≤ slice_index up c)).
+          let is = case.1 in
+          let rank : v ≡ a = one_run n first head v a k s is_v is_a at (subst (λ (x : ℕ). InSpan first a x) case.0 span) in
+          subst (λ (x : ℕ). HasWalk g (slice_index order a) (slice_index order (slice_index head c)) x) (sym case.1)
+          (subst (λ (x : ℕ). HasWalk g (slice_index order x) (slice_index order (slice_index head c)) to) rank
+          (subst (λ (x : ℕ). HasWalk g (slice_index order v) (slice_index order (slice_index head x)) to) (sym case.0) (new (omega arith)))))
+          (lowered_cases up k to c there));
       fall = w.fall;
     }
 
 -- and a downward one
-fall_lowered : (g : Graph) (order : List ℕ) (n : ℕ) (first head up down : List ℕ) (v i j k to : ℕ) → CanPush n first head up down → v < n → InSpan first v i → InSpan first v j → IsAcross first head i j k → to ≡ slice_index down j + slice_index up i → AreWalks g order n first head up down → AreWalks g order n first head up (lowered down k to)
-fall_lowered g order n first head up down v i j k to can is_v at_i at_j across is_sum w =
-    let inside : slice_index head i < n = head_inside n first head v i can.shape is_v at_i in
-    let there : k < length down = omega (arith, place_inside n first head (slice_index head i) k can.shape inside across.span, can.lengths.down_size) in
+pub fall_lowered_to : (g : Graph) (order : List ℕ) (n : ℕ) (first head up down : List ℕ) (v k to : ℕ) → IsShape n first head → v < n → InSpan first v k → k < length down → (to < no_link → HasWalk g (slice_index order (slice_index head k)) (slice_index order v) to) → AreWalks g order n first head up down → AreWalks g order n first head up (lowered down k to)
+fall_lowered_to g order n first head up down v k to s is_v at there new w =
     record {
       rise = w.rise;
       fall = (λ a c is_a span real.
@@ -137,19 +129,36 @@ fall_lowered g order n first head up down v i j k to can is_v at_i at_j across i
           (λ (same : slice_index (lowered down k to) c ≡ slice_index down c).
           let old : HasWalk g (slice_index order (slice_index head c)) (slice_index order a) (slice_index down c) = w.fall a c is_a span (omega arith) in
           subst (λ (x : ℕ). HasWalk g (slice_index order (slice_index head c)) (slice_index order a) x) (sym same) old)
-          (λ (new : (c ≡ k) × (slice_index (lowered down k to) c ≡ to) × (to ≤ slice_index down c)).
-          let sum = new.1 in
-          let rank : slice_index head i ≡ a = one_run n first head (slice_index head i) a k can.shape inside is_a across.span (subst (λ (x : ℕ). InSpan first a x) new.0 span) in
-          let leads : slice_index head j ≡ slice_index head c = sym across.is ∙ ap (λ (x : ℕ). slice_index head x) (sym new.0) in
-          let back : HasWalk g (slice_index order (slice_index head j)) (slice_index order v) (slice_index down j) = w.fall v j is_v at_j (omega arith) in
-          let on : HasWalk g (slice_index order v) (slice_index order (slice_index head i)) (slice_index up i) = w.rise v i is_v at_i (omega arith) in
-          let both = HasWalk-joined g (slice_index order (slice_index head j)) (slice_index order v) (slice_index order (slice_index head i)) (slice_index down j) (slice_index up i) back on in
-          let long : slice_index down j + slice_index up i ≡ slice_index (lowered down k to) c = sym is_sum ∙ sym new.1 in
-          subst (λ (x : ℕ). HasWalk g (slice_index order (slice_index head c)) (slice_index order a) x) long
-          (subst (λ (x : ℕ). HasWalk g (slice_index order (slice_index head c)) (slice_index order x) (slice_index down j + slice_index up i)) rank
-          (subst (λ (x : ℕ). HasWalk g (slice_index order x) (slice_index order (slice_index head i)) (slice_index down j + slice_index up i)) leads both)))
+          (λ (case : (c ≡ k) × (slice_index (lowered down k to) c ≡ to) × (to ≤ slice_index down c)).
+          let is = case.1 in
+          let rank : v ≡ a = one_run n first head v a k s is_v is_a at (subst (λ (x : ℕ). InSpan first a x) case.0 span) in
+          subst (λ (x : ℕ). HasWalk g (slice_index order (slice_index head c)) (slice_index order a) x) (sym case.1)
+          (subst (λ (x : ℕ). HasWalk g (slice_index order (slice_index head c)) (slice_index order x) to) rank
+          (subst (λ (x : ℕ). HasWalk g (slice_index order (slice_index head x)) (slice_index order v) to) (sym case.0) (new (omega arith)))))
           (lowered_cases down k to c there));
     }
+
+-- lowered to the way over a lower rank
+rise_lowered : (g : Graph) (order : List ℕ) (n : ℕ) (first head up down : List ℕ) (v i j k : ℕ) → CanPush n first head up down → v < n → InSpan first v i → InSpan first v j → IsAcross first head i j k → AreWalks g order n first head up down → AreWalks g order n first head (lowered up k (slice_index down i + slice_index up j)) down
+rise_lowered g order n first head up down v i j k can is_v at_i at_j across w =
+    let inside : slice_index head i < n = head_inside n first head v i can.shape is_v at_i in
+    let there : k < length up = omega (arith, place_inside n first head (slice_index head i) k can.shape inside across.span, can.lengths.up_size) in
+    rise_lowered_to g order n first head up down (slice_index head i) k (slice_index down i + slice_index up j) can.shape inside across.span there
+    (λ real.
+    subst (λ (x : ℕ). HasWalk g (slice_index order (slice_index head i)) (slice_index order x) (slice_index down i + slice_index up j)) (sym across.is)
+    (HasWalk-joined g (slice_index order (slice_index head i)) (slice_index order v) (slice_index order (slice_index head j)) (slice_index down i) (slice_index up j) (w.fall v i is_v at_i (omega arith)) (w.rise v j is_v at_j (omega arith))))
+    w
+
+fall_lowered : (g : Graph) (order : List ℕ) (n : ℕ) (first head up down : List ℕ) (v i j k to : ℕ) → CanPush n first head up down → v < n → InSpan first v i → InSpan first v j → IsAcross first head i j k → to ≡ slice_index down j + slice_index up i → AreWalks g order n first head up down → AreWalks g order n first head up (lowered down k to)
+fall_lowered g order n first head up down v i j k to can is_v at_i at_j across is_sum w =
+    let inside : slice_index head i < n = head_inside n first head v i can.shape is_v at_i in
+    let there : k < length down = omega (arith, place_inside n first head (slice_index head i) k can.shape inside across.span, can.lengths.down_size) in
+    fall_lowered_to g order n first head up down (slice_index head i) k to can.shape inside across.span there
+    (λ real.
+    subst (λ (x : ℕ). HasWalk g (slice_index order (slice_index head k)) (slice_index order (slice_index head i)) x) (sym is_sum)
+    (subst (λ (x : ℕ). HasWalk g (slice_index order x) (slice_index order (slice_index head i)) (slice_index down j + slice_index up i)) (sym across.is)
+    (HasWalk-joined g (slice_index order (slice_index head j)) (slice_index order v) (slice_index order (slice_index head i)) (slice_index down j) (slice_index up i) (w.fall v j is_v at_j (omega arith)) (w.rise v i is_v at_i (omega arith)))))
+    w
 
 -- both links of a triangle
 pub Keeps-lowered : (n : ℕ) (first head up down : List ℕ) (v i j k : ℕ) → CanPush n first head up down → v < n → InSpan first v i → InSpan first v j → IsAcross first head i j k → Keeps n first head (slice_index first (v + 1)) up down (lowered up k (slice_index down i + slice_index up j)) (lowered down k (slice_index down j + slice_index up i))

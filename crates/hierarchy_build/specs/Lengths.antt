@@ -8,9 +8,16 @@
 --   Keeps n first head from up down up' down'  both ways so, and links that were walks are walks still
 --   IsTight up down i j k  the link at k is no longer, either way, than that at i and that at j together
 --   AreTight n first head up down v  this holds for each two places of the run of a rank below v
-use Rattle.std.specs.Prelude.{◌≡◌, ◌<◌, ◌≤◌, ◌+◌, ◌^◌, ℕ, List, length, slice_index}
-use Rattle.road_model.specs.Graph.{Graph}
+--   AreSpelled order rank r   the ranks of an arc's ends lead back to them
+--   IsWithin n rank r      an arc whose ends have ranks below n, and whose length is that of a link
+--   IsCovered n first head rank up down r   an arc whose ends differ in rank has a link that isn't longer
+--   KeepsArcs n rank first head rows up down up' down'   nothing rises, links that were walks of a graph with
+--                          these arcs are walks of it still, and each arc is covered; KeepsArc the same for one arc
+use Rattle.std.specs.Prelude.{◌≡◌, ◌≢◌, ◌<◌, ◌≤◌, ◌⊎◌, ◌+◌, ◌^◌, ℕ, List, Some, length, slice_index, All}
+use Rattle.road_model.specs.declared.rows.ArcRow.{ArcRow}
+use Rattle.road_model.specs.Graph.{Graph, rows_of, arc_at}
 use Rattle.road_model.specs.Dist.{HasWalk}
+use Rattle.hierarchy_build.specs.Hills.{Within}
 use Rattle.hierarchy_build.specs.Runs.{InSpan, IsShape, IsAcross}
 
 abbrev pub no_link : ℕ
@@ -60,3 +67,34 @@ AreTight n first head up down v =
 abbrev pub RunIsTight : List ℕ → List ℕ → List ℕ → List ℕ → ℕ → ℕ → Type 0
 RunIsTight first head up down v i =
     (j k : ℕ) → InSpan first v j → i < j → IsAcross first head i j k → IsTight up down i j k
+
+pub record AreSpelled (order rank : List ℕ) (r : ArcRow) : Type 0 where
+  pub tail : slice_index order (slice_index rank r.tail) ≡ r.tail
+  pub head : slice_index order (slice_index rank r.head) ≡ r.head
+
+pub record IsWithin (n : ℕ) (rank : List ℕ) (r : ArcRow) : Type 0 where
+  pub tail_named : r.tail < length rank
+  pub head_named : r.head < length rank
+  pub tail : slice_index rank r.tail < n
+  pub head : slice_index rank r.head < n
+  pub short : r.length < no_link
+
+abbrev pub IsCovered : ℕ → List ℕ → List ℕ → List ℕ → List ℕ → List ℕ → ArcRow → Type 0
+IsCovered n first head rank up down r =
+    slice_index rank r.tail ≢ slice_index rank r.head
+    → Within (LinkAt n first head up) (slice_index rank r.tail) (slice_index rank r.head) r.length
+    ⊎ Within (LinkAt n first head down) (slice_index rank r.head) (slice_index rank r.tail) r.length
+
+-- what one arc does
+pub record KeepsArc (n : ℕ) (rank first head : List ℕ) (r : ArcRow) (up down up' down' : List ℕ) : Type 0 where
+  pub rise : Falls 0 up up'
+  pub fall : Falls 0 down down'
+  pub walks : (g : Graph) (order : List ℕ) (a : ℕ) → arc_at g a ≡ Some r → AreSpelled order rank r → AreWalks g order n first head up down → AreWalks g order n first head up' down'
+  pub covered : IsCovered n first head rank up' down' r
+
+-- what all arcs do
+pub record KeepsArcs (n : ℕ) (rank first head : List ℕ) (rows : List ArcRow) (up down up' down' : List ℕ) : Type 0 where
+  pub rise : Falls 0 up up'
+  pub fall : Falls 0 down down'
+  pub walks : (g : Graph) (order : List ℕ) → rows_of g ≡ rows → All (AreSpelled order rank) rows → AreWalks g order n first head up down → AreWalks g order n first head up' down'
+  pub covered : All (IsCovered n first head rank up' down') rows

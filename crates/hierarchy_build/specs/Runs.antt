@@ -5,7 +5,11 @@
 --                          and of two that stand in one run the lower has the higher in its own
 --   IsAcross first head i j k  the place k joins the ranks at the places i and j of one run
 --   HasPlace head from w   w stands at a place from `from` on
+--   IsRanked n order rank  order[r] is the vertex of the rank r, and rank[v] the rank of the vertex v
+--   IsPlaced rank first head r  the two ends of an arc have ranks, and the higher stands in the run of the lower
 use Rattle.std.specs.Prelude.{◌≡◌, ◌<◌, ◌≤◌, ◌+◌, ℕ, List, length, slice_index}
+use Rattle.road_model.specs.declared.rows.ArcRow.{ArcRow}
+use Rattle.road_model.specs.Graph.{IsVertex}
 
 pub record InSpan (first : List ℕ) (v k : ℕ) : Type 0 where
   pub low : slice_index first v ≤ k
@@ -35,3 +39,13 @@ pub record HasPlace (head : List ℕ) (from w : ℕ) : Type 0 where
   pub late : from ≤ place
   pub inside : place < length head
   pub is : slice_index head place ≡ w
+
+pub record IsRanked (n : ℕ) (order rank : List ℕ) : Type 0 where
+  pub order_size : length order ≡ n
+  pub rank_size : length rank ≡ n + 1
+  pub inside : (v : ℕ) → IsVertex n v → slice_index rank v < n
+  pub back : (v : ℕ) → IsVertex n v → slice_index order (slice_index rank v) ≡ v
+
+pub record IsPlaced (rank first head : List ℕ) (r : ArcRow) : Type 0 where
+  pub rise : slice_index rank r.tail < slice_index rank r.head → IsUp first head (slice_index rank r.tail) (slice_index rank r.head)
+  pub fall : slice_index rank r.head < slice_index rank r.tail → IsUp first head (slice_index rank r.head) (slice_index rank r.tail)

@@ -1,4 +1,5 @@
 //! A customisable contraction hierarchy of a road graph.
 #![tactic(auto)]
 
+mod base;
 mod push;

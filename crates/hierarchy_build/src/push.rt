@@ -5,7 +5,8 @@ ghost use Rattle.hierarchy_build.specs.Runs.{InSpan, IsAcross, HasPlace};
 ghost use Rattle.hierarchy_build.specs.Lengths.{CanPush, Keeps, IsTight, AreTight, RunIsTight};
 
 // The first place of `w` from `from` on.
-fn place_of(head: &[u32], from: usize, w: u32) -> usize
+#[inline(always)]
+pub(crate) fn place_of(head: &[u32], from: usize, w: u32) -> usize
     requires { HasPlace head.now from w }
     ensures inside { result < length head.now }
     ensures late { from ≤ result }
