@@ -2,4 +2,10 @@
 #![tactic(auto)]
 
 mod base;
+mod hierarchy;
+mod pending;
 mod push;
+mod shape;
+
+pub use hierarchy::{Hierarchy, NO_LINK, contract, customise};
+pub use shape::Shape;

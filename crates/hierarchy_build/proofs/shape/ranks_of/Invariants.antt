@@ -1,0 +1,6 @@
+use Rattle.std.proofs.Common.{◌≡◌, ◌+◌, ◌<◌, ℕ, length, get_or}
+use Rattle.hierarchy_build.proofs.Ranks.{RanksSoFar}
+use Rattle.hierarchy_build.proofs.shape.ranks_of.Given as goal
+
+abbrev pub invariant-loop-r : goal.invariant-loop-r
+invariant-loop-r l = RanksSoFar l.order l.r l.rank.items
