@@ -14,9 +14,11 @@ use Rattle.hierarchy_build.specs.declared.shape.Shape.{Shape}
 use Rattle.hierarchy_build.specs.Hills.{Within, HasTriangles, IsSound, Covers, HasHillDists}
 use Rattle.hierarchy_build.specs.Runs.{InSpan, IsUp, IsShape, IsAcross, IsRanked, IsPlaced}
 use Rattle.hierarchy_build.specs.Lengths.{no_link, LinkAt, AreLengths, CanPush, AreWalks, Falls, IsWithin, AreSpelled, IsCovered, KeepsArcs, IsTight, AreTight}
+use Rattle.hierarchy_build.specs.Waits.{Waits, IsDue, ShapeSoFar}
 use Rattle.hierarchy_build.specs.Hierarchy.{IsShapeOf, HasLengths}
 use Rattle.hierarchy_build.proofs.Hills.{hills_have_dists}
 use Rattle.hierarchy_build.proofs.Runs.{place_inside, head_inside, places_rise}
+use Rattle.hierarchy_build.proofs.Waits.{IsShape-all, IsPlaced-all}
 use Rattle.hierarchy_build.proofs.Arcs.{CanPush-arcs}
 
 link_rises : (n : ℕ) (first head lengths : List ℕ) → IsShape n first head → (a b x : ℕ) → LinkAt n first head lengths a b x → a < b
@@ -178,4 +180,39 @@ HasLengths-customised g s rows up down is limits read k tight =
           (covers g s.order s.rank s.first s.head up down is.ranked limits.is_graph covered)
           (sound g s.order g.vertices s.first s.head up down walks)
           (dists_below g limits);
+    }
+
+-- by what the code read
+pub HasLengths-read : (g : Graph) (s : Shape) (n : ℕ) (rank first head : List ℕ) (rows : List ArcRow) (u d up down : List ℕ) → n ≡ g.vertices → rank ≡ s.rank → first ≡ s.first → head ≡ s.head → rows ≡ rows_of g → u ≡ replicate (length s.head) no_link → d ≡ replicate (length s.head) no_link → IsShapeOf g s → IsWithinLimits g → KeepsArcs n rank first head rows u d up down → AreTight n first head up down n → HasLengths g s up down
+HasLengths-read g s n rank first head rows u d up down is_n is_rank is_first is_head is_rows is_u is_d shape limits k tight =
+    let k₁ : KeepsArcs g.vertices rank first head rows u d up down = subst (λ (x : ℕ). KeepsArcs x rank first head rows u d up down) is_n k in
+    let k₂ : KeepsArcs g.vertices s.rank first head rows u d up down = subst (λ (x : List ℕ). KeepsArcs g.vertices x first head rows u d up down) is_rank k₁ in
+    let k₃ : KeepsArcs g.vertices s.rank s.first head rows u d up down = subst (λ (x : List ℕ). KeepsArcs g.vertices s.rank x head rows u d up down) is_first k₂ in
+    let k₄ : KeepsArcs g.vertices s.rank s.first s.head rows u d up down = subst (λ (x : List ℕ). KeepsArcs g.vertices s.rank s.first x rows u d up down) is_head k₃ in
+    let k₅ : KeepsArcs g.vertices s.rank s.first s.head rows (replicate (length s.head) no_link) d up down = subst (λ (x : List ℕ). KeepsArcs g.vertices s.rank s.first s.head rows x d up down) is_u k₄ in
+    let k₆ : KeepsArcs g.vertices s.rank s.first s.head rows (replicate (length s.head) no_link) (replicate (length s.head) no_link) up down = subst (λ (x : List ℕ). KeepsArcs g.vertices s.rank s.first s.head rows (replicate (length s.head) no_link) x up down) is_d k₅ in
+    let t₁ : AreTight g.vertices first head up down g.vertices = subst (λ (x : ℕ). AreTight x first head up down x) is_n tight in
+    let t₂ : AreTight g.vertices s.first head up down g.vertices = subst (λ (x : List ℕ). AreTight g.vertices x head up down g.vertices) is_first t₁ in
+    let t₃ : AreTight g.vertices s.first s.head up down g.vertices = subst (λ (x : List ℕ). AreTight g.vertices s.first x up down g.vertices) is_head t₂ in
+    HasLengths-customised g s rows up down shape limits is_rows k₆ t₃
+
+pub CanPush-read : (g : Graph) (s : Shape) (n : ℕ) (first head u d : List ℕ) → n ≡ g.vertices → first ≡ s.first → head ≡ s.head → u ≡ replicate (length s.head) no_link → d ≡ replicate (length s.head) no_link → IsShapeOf g s → CanPush n first head u d
+CanPush-read g s n first head u d is_n is_first is_head is_u is_d shape =
+    subst (λ (x : ℕ). CanPush x first head u d) (sym is_n)
+    (subst (λ (x : List ℕ). CanPush g.vertices x head u d) (sym is_first)
+    (subst (λ (x : List ℕ). CanPush g.vertices s.first x u d) (sym is_head)
+    (subst (λ (x : List ℕ). CanPush g.vertices s.first s.head x d) (sym is_u)
+    (subst (λ (x : List ℕ). CanPush g.vertices s.first s.head (replicate (length s.head) no_link) x) (sym is_d) (CanPush-fresh g.vertices s.first s.head shape.shape)))))
+
+-- the shape that was laid out
+pub IsShapeOf-laid : (g : Graph) (order rank first head : List ℕ) (n : ℕ) (p q : List (List ℕ)) → n ≡ g.vertices → IsRanked g.vertices order rank → All (IsArc g.vertices) (rows_of g) → ShapeSoFar n n first head q → All (IsDue 0 rank [] [] p) (rows_of g) → ((a b : ℕ) → Waits 0 [] [] p a b → Waits n first head q a b) → IsShapeOf g (record { order = order; rank = rank; first = first; head = head })
+IsShapeOf-laid g order rank first head n p q is_n ranked arcs so_far due waits =
+    let s : ShapeSoFar g.vertices g.vertices first head q = subst (λ (x : ℕ). ShapeSoFar x x first head q) is_n so_far in
+    let w : (a b : ℕ) → Waits 0 [] [] p a b → Waits g.vertices first head q a b = subst (λ (x : ℕ). (a b : ℕ) → Waits 0 [] [] p a b → Waits x first head q a b) is_n waits in
+    record {
+      ranked = ranked;
+      shape = IsShape-all g.vertices first head q s;
+      placed = (λ k d inside.
+          let a : IsArc g.vertices (get_or g.arcs k d) = arcs k d inside in
+          IsPlaced-all g.vertices rank first head p q (get_or g.arcs k d) (ranked.inside (get_or g.arcs k d).tail a.tail) (ranked.inside (get_or g.arcs k d).head a.head) w (due k d inside));
     }
