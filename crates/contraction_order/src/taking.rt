@@ -29,11 +29,7 @@ fn take_vertex(taken: &mut [u8], order: &mut Vec<Vertex>, v: u32) -> Result<(), 
 
 /// The order that begins with these vertices, each where it is first named, and goes on with all others by
 /// number.
-pub(crate) fn order_by(
-    alloc: Global,
-    vertices: u32,
-    wishes: &[u32],
-) -> Result<VertexList, NoMemory>
+pub(crate) fn order_by(alloc: Global, vertices: u32, wishes: &[u32]) -> Result<VertexList, NoMemory>
     requires { vertices < 2 ^ 31 }
     ensures { IfOk result (λ vs. IsOrder vertices vs) }
 {

@@ -1,15 +1,14 @@
 -- Lowering links to arcs.
-use Rattle.std.proofs.Common.{◌≡◌, ◌≢◌, ◌+◌, ◌<◌, ◌≤◌, ◌⊎◌, ℕ, zero, suc, min, List, [], ◌∷◌, Some, length, slice_index, get_or, set, take, refl, sym, ap, ◌∙◌, subst, arith, inl, inr, ⊎_elim}
+use Rattle.std.proofs.Common.{◌≡◌, ◌+◌, ◌<◌, ◌≤◌, ◌⊎◌, ℕ, suc, List, [], ◌∷◌, Some, length, slice_index, get_or, take, refl, sym, ap, ◌∙◌, subst, arith, inl, inr, ⊎_elim}
 use Rattle.std.specs.List.{All}
-use Rattle.std.proofs.lemmas.Bool.{cases_lt}
 use Rattle.std.proofs.lemmas.List.Elements.{All-more, All-weaker}
 use Rattle.std.proofs.lemmas.Option.{slice_get-get_or}
 use Rattle.road_model.specs.declared.rows.ArcRow.{ArcRow}
 use Rattle.road_model.specs.Graph.{Graph, rows_of, arc_at, row_length}
 use Rattle.road_model.specs.Dist.{HasWalk}
 use Rattle.hierarchy_build.specs.Hills.{Within}
-use Rattle.hierarchy_build.specs.Runs.{InSpan, IsUp, IsShape, IsPlaced, HasPlace}
-use Rattle.hierarchy_build.specs.Lengths.{no_link, LinkAt, AreLengths, CanPush, AreWalks, Falls, Keeps, IsWithin, AreSpelled, IsCovered, KeepsArc, KeepsArcs}
+use Rattle.hierarchy_build.specs.Runs.{InSpan, IsUp, IsShape, HasPlace}
+use Rattle.hierarchy_build.specs.Lengths.{no_link, LinkAt, CanPush, AreWalks, Falls, Keeps, IsWithin, AreSpelled, IsCovered, KeepsArc, KeepsArcs}
 use Rattle.hierarchy_build.proofs.Runs.{place_inside}
 use Rattle.hierarchy_build.proofs.Pushes.{lowered, lowered_at, lowered_falls, rise_lowered_to, fall_lowered_to, Falls-itself, Falls-joined}
 

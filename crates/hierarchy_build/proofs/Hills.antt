@@ -2,11 +2,11 @@
 use Rattle.std.proofs.Common.{◌≡◌, ◌≢◌, ◌+◌, ◌<◌, ◌≤◌, ◌⊎◌, ℕ, List, [], ◌∷◌, ◌++◌, Option, Some, None, refl, sym, ap, ◌∙◌, subst, arith, inl, inr, ⊎_elim}
 use Rattle.std.proofs.lemmas.Bool.{cases_lt}
 use Rattle.road_model.specs.declared.rows.ArcRow.{ArcRow}
-use Rattle.road_model.specs.Graph.{Graph, arc_at, length_at, row_length, IsVertex}
+use Rattle.road_model.specs.Graph.{Graph, length_at, row_length, IsVertex}
 use Rattle.road_model.specs.Walk.{IsWalk, walk_length}
 use Rattle.road_model.specs.Dist.{HasWalk, IsDist, DistsBelow, NoneShorter}
 use Rattle.road_model.proofs.Walks.{IsWalk-append, walk_length-append}
-use Rattle.hierarchy_build.specs.Hills.{IsRise, rise_length, HasRise, Hill, HillWithin, HasHill, NoneLower, Within, IsHillDist, HasTriangles, IsSound, Covers, HasHillDists}
+use Rattle.hierarchy_build.specs.Hills.{IsRise, rise_length, Hill, HillWithin, HasHill, NoneLower, Within, IsHillDist, HasTriangles, IsSound, Covers, HasHillDists}
 
 pub IsRise-push : (L : ℕ → ℕ → ℕ → Type 0) (p : List (ℕ × ℕ)) (a b c x : ℕ) → IsRise L a p b → L b c x → IsRise L a (p ++ (c, x) ∷ []) c
 IsRise-push L [] a b c x rise link = (subst (λ (n : ℕ). L n c x) (sym rise) link, refl)

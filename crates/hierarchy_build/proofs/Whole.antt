@@ -1,19 +1,17 @@
 -- From the arrays of a hierarchy to the distances of its graph.
-use Rattle.std.proofs.Common.{◌≡◌, ◌≢◌, ◌+◌, ◌^◌, ◌<◌, ◌≤◌, ◌⊎◌, ℕ, zero, suc, List, [], ◌∷◌, Some, length, slice_index, get_or, replicate, refl, sym, ap, ◌∙◌, subst, arith, inl, inr, ⊎_elim}
+use Rattle.std.proofs.Common.{◌≡◌, ◌+◌, ◌<◌, ◌≤◌, ℕ, zero, suc, List, [], Some, length, slice_index, get_or, replicate, refl, sym, ap, ◌∙◌, subst, arith}
 use Rattle.std.specs.List.{All}
-use Rattle.std.proofs.lemmas.Bool.{cases_lt}
 use Rattle.std.proofs.lemmas.List.Elements.{All-weaker}
 use Rattle.std.proofs.lemmas.Option.{slice_get_within, get_or_from_slice_get}
 use Rattle.road_model.specs.declared.rows.ArcRow.{ArcRow}
-use Rattle.road_model.specs.Graph.{Graph, rows_of, arc_at, IsVertex, IsArc}
-use Rattle.road_model.specs.Dist.{HasWalk, DistsBelow}
+use Rattle.road_model.specs.Graph.{Graph, rows_of, arc_at, IsArc}
+use Rattle.road_model.specs.Dist.{HasWalk}
 use Rattle.road_model.specs.File.{IsWithinLimits}
-use Rattle.road_model.proofs.Walks.{IsArc-at}
 use Rattle.forward_star.proofs.Bound.{dists_below}
 use Rattle.hierarchy_build.specs.declared.shape.Shape.{Shape}
-use Rattle.hierarchy_build.specs.Hills.{Within, HasTriangles, IsSound, Covers, HasHillDists}
-use Rattle.hierarchy_build.specs.Runs.{InSpan, IsUp, IsShape, IsAcross, IsRanked, IsPlaced}
-use Rattle.hierarchy_build.specs.Lengths.{no_link, LinkAt, AreLengths, CanPush, AreWalks, Falls, IsWithin, AreSpelled, IsCovered, KeepsArcs, IsTight, AreTight}
+use Rattle.hierarchy_build.specs.Hills.{Within, HasTriangles, IsSound, Covers}
+use Rattle.hierarchy_build.specs.Runs.{InSpan, IsUp, IsShape, IsAcross, IsRanked}
+use Rattle.hierarchy_build.specs.Lengths.{no_link, LinkAt, CanPush, AreWalks, IsWithin, AreSpelled, IsCovered, KeepsArcs, IsTight, AreTight}
 use Rattle.hierarchy_build.specs.Waits.{Waits, IsDue, ShapeSoFar}
 use Rattle.hierarchy_build.specs.Hierarchy.{IsShapeOf, HasLengths}
 use Rattle.hierarchy_build.proofs.Hills.{hills_have_dists}

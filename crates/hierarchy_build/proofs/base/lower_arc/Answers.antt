@@ -1,7 +1,7 @@
 use Rattle.std.proofs.Common.{◌≡◌, ◌<◌, ◌≤◌, ℕ, List, slice_index, sym, ap, ◌∙◌, subst, arith}
-use Rattle.hierarchy_build.specs.Runs.{InSpan, IsUp}
+use Rattle.hierarchy_build.specs.Runs.{IsUp}
 use Rattle.hierarchy_build.specs.Lengths.{KeepsArc}
-use Rattle.hierarchy_build.proofs.Arcs.{up_found, KeepsArc-rise, KeepsArc-fall, KeepsArc-none}
+use Rattle.hierarchy_build.proofs.Arcs.{up_found, KeepsArc-rise, KeepsArc-fall}
 use Rattle.hierarchy_build.proofs.base.lower_arc.Goals as goal
 
 pub returns-then-from-to : goal.returns-then-from-to

@@ -1,4 +1,4 @@
-use Rattle.std.proofs.Common.{◌≡◌, ◌<◌, ◌≤◌, ◌-◌, ℕ, length, get_or}
+use Rattle.std.proofs.Common.{◌≡◌, ◌≤◌, ◌-◌, ℕ, length, get_or}
 use Rattle.hierarchy_build.proofs.push.place_of.Given as goal
 
 abbrev pub invariant-loop-place : goal.invariant-loop-place

@@ -1,6 +1,5 @@
-use Rattle.std.proofs.Common.{◌≡◌, ◌+◌, ◌<◌, ◌≤◌, ℕ, List, slice_index, min, sym, subst, arith}
-use Rattle.hierarchy_build.specs.Runs.{InSpan, IsAcross, HasPlace}
-use Rattle.hierarchy_build.specs.Lengths.{IsTight}
+use Rattle.std.proofs.Common.{◌+◌, ℕ, List, slice_index, sym, subst, arith}
+use Rattle.hierarchy_build.specs.Runs.{InSpan, IsAcross}
 use Rattle.hierarchy_build.proofs.Runs.{place_across, across_found}
 use Rattle.hierarchy_build.proofs.Pushes.{lowered, RowSoFar, RowSoFar-more}
 use Rattle.hierarchy_build.proofs.push.push_row.Goals as goal

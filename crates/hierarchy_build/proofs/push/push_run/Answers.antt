@@ -1,7 +1,6 @@
-use Rattle.std.proofs.Common.{◌≡◌, ◌+◌, ◌<◌, ◌≤◌, ℕ, get_or, arith, ap, subst, ⊎_elim}
+use Rattle.std.proofs.Common.{◌≡◌, ◌+◌, ◌<◌, ◌≤◌, ℕ, get_or, arith, subst, ⊎_elim}
 use Rattle.std.proofs.lemmas.Bool.{cases_lt}
-use Rattle.hierarchy_build.specs.Runs.{InSpan, IsAcross}
-use Rattle.hierarchy_build.specs.Lengths.{IsTight, RunIsTight}
+use Rattle.hierarchy_build.specs.Lengths.{RunIsTight}
 use Rattle.hierarchy_build.proofs.Pushes.{Keeps-joined, IsTight-kept}
 use Rattle.hierarchy_build.proofs.push.push_run.Goals as goal
 

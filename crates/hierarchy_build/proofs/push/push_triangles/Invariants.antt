@@ -1,4 +1,3 @@
-use Rattle.std.proofs.Common.{◌+◌, ◌<◌, ℕ, get_or}
 use Rattle.hierarchy_build.specs.Lengths.{Keeps, AreTight}
 use Rattle.hierarchy_build.proofs.push.push_triangles.Given as goal
 

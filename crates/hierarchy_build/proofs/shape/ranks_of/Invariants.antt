@@ -1,4 +1,3 @@
-use Rattle.std.proofs.Common.{◌≡◌, ◌+◌, ◌<◌, ℕ, length, get_or}
 use Rattle.hierarchy_build.proofs.Ranks.{RanksSoFar}
 use Rattle.hierarchy_build.proofs.shape.ranks_of.Given as goal
 

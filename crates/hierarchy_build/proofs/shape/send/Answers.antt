@@ -1,4 +1,4 @@
-use Rattle.std.proofs.Common.{◌≤◌, ℕ, length, get_or, refl, arith, inl}
+use Rattle.std.proofs.Common.{length, get_or, refl, arith, inl}
 use Rattle.hierarchy_build.proofs.Waits.{IsSent-more, IsSent-shorter}
 use Rattle.hierarchy_build.proofs.shape.send.Goals as goal
 

@@ -1,4 +1,4 @@
-use Rattle.std.proofs.Common.{◌≡◌, ◌+◌, [], ℕ, List, take, arith, subst}
+use Rattle.std.proofs.Common.{[], ℕ, List, arith, subst}
 use Rattle.std.specs.List.{All}
 use Rattle.std.proofs.lemmas.List.{take_all}
 use Rattle.road_model.specs.declared.rows.ArcRow.{ArcRow}

@@ -1,11 +1,10 @@
-use Rattle.std.proofs.Common.{◌≡◌, ◌+◌, ◌<◌, [], ℕ, List, length, sym, ap, ◌∙◌, subst, arith}
+use Rattle.std.proofs.Common.{◌≡◌, [], ℕ, List, length, sym, ap, ◌∙◌, subst}
 use Rattle.std.specs.List.{All}
 use Rattle.road_model.specs.declared.rows.ArcRow.{ArcRow}
 use Rattle.road_model.specs.Graph.{rows_of, IsArc}
 use Rattle.hierarchy_build.specs.Runs.{IsRanked}
 use Rattle.hierarchy_build.specs.Waits.{IsDue}
 use Rattle.hierarchy_build.specs.Hierarchy.{IsShapeOf}
-use Rattle.hierarchy_build.specs.declared.shape.Shape.{Shape}
 use Rattle.hierarchy_build.proofs.Whole.{IsShapeOf-laid}
 use Rattle.hierarchy_build.proofs.shape.Shape.build.Goals as goal
 
