@@ -1,0 +1,7 @@
+//! Distances of a road graph by its hierarchy.
+#![tactic(auto)]
+
+mod climb;
+mod oracle;
+
+pub use oracle::HierarchyOracle;
