@@ -55,13 +55,7 @@ pub(crate) fn climb(
 }
 
 // The least length of a hill, from the labels of both climbs.
-fn meet(
-    first: &[u32],
-    head: &[u32],
-    forward: &[u64],
-    backward: &[u64],
-    s: usize,
-) -> u64
+fn meet(first: &[u32], head: &[u32], forward: &[u64], backward: &[u64], s: usize) -> u64
     requires { CanMeet first.now head.now forward.now backward.now s }
     ensures { IsMeeting forward.now backward.now result }
 {

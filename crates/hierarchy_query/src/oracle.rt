@@ -64,8 +64,13 @@ impl<'a> Oracle for HierarchyOracle<'a> {
         let shape = &self.hierarchy.shape;
         let s = shape.rank.as_slice()[from.number() as usize] as usize;
         let t = shape.rank.as_slice()[to.number() as usize] as usize;
-        let (best, passed) =
-            least_hill(self.hierarchy, s, t, &mut self.forward, &mut self.backward);
+        let (best, passed) = least_hill(
+            self.hierarchy,
+            s,
+            t,
+            &mut self.forward,
+            &mut self.backward,
+        );
         self.settled = self.settled.saturating_add(passed);
         self.asked = self.asked.saturating_add(1);
         if best >= NO_LINK {
