@@ -2,6 +2,10 @@
 #![tactic(auto)]
 
 mod order;
+mod quotient;
 mod taking;
 
 pub use order::{Order, order_of};
+
+#[cfg(test)]
+mod tests;
