@@ -6,6 +6,7 @@ mod quotient;
 mod taking;
 
 pub use order::{Order, order_of};
+pub use taking::order_by;
 
 #[cfg(test)]
 mod tests;

@@ -4,6 +4,7 @@ ghost use Rattle.std.specs.Prelude.{◌≡◌, ◌<◌, ◌-◌, ◌^◌, ℕ, l
 ghost use Rattle.road_model.specs.Graph.{IsVertex};
 ghost use Rattle.contraction_order.specs.Order.{IsOrder, AreTaken};
 
+use crate::order::Order;
 use road_model::{NoMemory, Vertex, VertexList};
 use std::alloc::Global;
 
@@ -28,10 +29,10 @@ fn take_vertex(taken: &mut [u8], order: &mut Vec<Vertex>, v: u32) -> Result<(), 
 }
 
 /// The order that begins with these vertices, each where it is first named, and goes on with all others by
-/// number.
-pub(crate) fn order_by(alloc: Global, vertices: u32, wishes: &[u32]) -> Result<VertexList, NoMemory>
+/// number. A number that is no vertex is passed over.
+pub fn order_by(alloc: Global, vertices: u32, wishes: &[u32]) -> Result<Order, NoMemory>
     requires { vertices < 2 ^ 31 }
-    ensures { IfOk result (λ vs. IsOrder vertices vs) }
+    ensures { IfOk result (λ o. IsOrder vertices o.vertices) }
 {
     let mut taken = vec![in alloc; 0u8; vertices as usize]?;
     let mut order = Vec::with_capacity(alloc, vertices as usize)?;
@@ -41,5 +42,7 @@ pub(crate) fn order_by(alloc: Global, vertices: u32, wishes: &[u32]) -> Result<V
     for v in 1..vertices + 1 {
         take_vertex(&mut taken, &mut order, v)?;
     }
-    Ok(VertexList::from_vec(order))
+    Ok(Order {
+        vertices: VertexList::from_vec(order),
+    })
 }

@@ -4,31 +4,56 @@ use road_model::{ArcRow, ArcRows, GraphFile, Vertex};
 use std::alloc::Global;
 use std::test::Fail;
 
-// A star with 1 in its middle, and a path from its last point.
-fn star_of(alloc: Global) -> Result<Star, Fail> {
-    let ends = [(1, 2), (1, 3), (1, 4), (5, 1), (5, 6), (6, 5), (3, 3)];
+// A graph of these arcs (tail, head, length); a row outside the limits fails the test.
+fn graph_of(alloc: Global, vertices: u32, arcs: &[(u32, u32, u64)]) -> Result<GraphFile, Fail> {
     let mut rows = ArcRows::new(alloc);
-    for (tail, head) in ends {
+    if vertices > 33554432 || arcs.len() > 67108864 {
+        return Err("too large a graph".into());
+    }
+    for arc in arcs {
+        let (tail, head, length) = *arc;
+        let ends = tail >= 1 && tail <= vertices && head >= 1 && head <= vertices;
+        if !ends || length < 1 || length > 4294967295 {
+            return Err("an arc outside the limits".into());
+        }
         rows.push(ArcRow {
             tail: Vertex(tail),
             head: Vertex(head),
-            length: 1,
+            length,
         })?;
     }
-    if rows.len() > 7 {
-        return Err("too many".into());
-    }
-    Ok(Star::build(alloc, GraphFile::new(6, rows))?)
+    Ok(GraphFile::new(vertices, rows))
 }
 
 #[test]
-fn the_middle_of_a_star_goes_late(rt: HostRuntime) -> Result<(), Fail> {
-    let order = order_of(rt.alloc(), &star_of(rt.alloc())?)?;
-    let numbers = order.vertices.as_slice();
-    assert_eq!(rt; numbers.len(), 6);
-    assert_eq!(rt; numbers[0], Vertex(2));
-    assert_eq!(rt; numbers[1], Vertex(3));
-    assert_eq!(rt; numbers[2], Vertex(4));
-    assert_eq!(rt; numbers[3], Vertex(1));
+fn the_middle_of_a_star_goes_after_its_points(rt: HostRuntime) -> Result<(), Fail> {
+    let arcs = [
+        (1, 2, 1),
+        (1, 3, 1),
+        (1, 4, 1),
+        (5, 1, 1),
+        (5, 6, 1),
+        (6, 5, 1),
+        (3, 3, 1),
+    ];
+    let star = Star::build(rt.alloc(), graph_of(rt.alloc(), 6, &arcs)?)?;
+    let order = order_of(rt.alloc(), &star)?;
+    let wanted = [
+        Vertex(2),
+        Vertex(3),
+        Vertex(1),
+        Vertex(4),
+        Vertex(5),
+        Vertex(6),
+    ];
+    assert_eq!(rt; order.vertices.as_slice(), wanted.as_slice());
+    Ok(())
+}
+
+#[test]
+fn wishes_come_first_and_once(rt: HostRuntime) -> Result<(), Fail> {
+    let order = order_by(rt.alloc(), 4, &[3, 9, 3, 0, 2])?;
+    let wanted = [Vertex(3), Vertex(2), Vertex(1), Vertex(4)];
+    assert_eq!(rt; order.vertices.as_slice(), wanted.as_slice());
     Ok(())
 }

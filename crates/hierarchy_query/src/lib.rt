@@ -3,5 +3,10 @@
 
 mod climb;
 mod oracle;
+mod tables;
 
 pub use oracle::HierarchyOracle;
+pub use tables::{DistanceList, one_to_many};
+
+#[cfg(test)]
+mod tests;
