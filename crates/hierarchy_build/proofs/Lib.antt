@@ -5,3 +5,4 @@ pub mod Arcs
 pub mod Waits
 pub mod Ranks
 pub mod Whole
+pub mod Versions
