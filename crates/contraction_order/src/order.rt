@@ -1,0 +1,26 @@
+ghost use Rattle.std.specs.Prelude.{IfOk};
+ghost use Rattle.contraction_order.specs.Order.{IsOrder};
+
+use crate::quotient::by_difference;
+use crate::taking::order_by;
+use forward_star::Star;
+use road_model::{NoMemory, VertexList};
+use std::alloc::Global;
+
+/// Every vertex once, the one that is contracted first at the head.
+#[derive(Debug, Drop)]
+pub struct Order {
+    pub vertices: VertexList,
+}
+
+/// An order for the vertices of a graph: by least estimated edge difference, in a quotient graph. Which order it
+/// is changes how large a hierarchy becomes, and no answer.
+///
+/// On a road network it takes some 4 us a vertex, and some 100 bytes.
+pub fn order_of(alloc: Global, star: &Star) -> Result<Order, NoMemory>
+    ensures { IfOk result (λ o. IsOrder star.now.vertices o.vertices) }
+{
+    let wishes = by_difference(alloc, star)?;
+    let order = order_by(alloc, star.graph().vertices(), &wishes)?;
+    Ok(order)
+}

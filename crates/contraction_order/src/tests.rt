@@ -1,0 +1,59 @@
+use super::*;
+use forward_star::Star;
+use road_model::{ArcRow, ArcRows, GraphFile, Vertex};
+use std::alloc::Global;
+use std::test::Fail;
+
+// A graph of these arcs (tail, head, length); a row outside the limits fails the test.
+fn graph_of(alloc: Global, vertices: u32, arcs: &[(u32, u32, u64)]) -> Result<GraphFile, Fail> {
+    let mut rows = ArcRows::new(alloc);
+    if vertices > 33554432 || arcs.len() > 67108864 {
+        return Err("too large a graph".into());
+    }
+    for arc in arcs {
+        let (tail, head, length) = *arc;
+        let ends = tail >= 1 && tail <= vertices && head >= 1 && head <= vertices;
+        if !ends || length < 1 || length > 4294967295 {
+            return Err("an arc outside the limits".into());
+        }
+        rows.push(ArcRow {
+            tail: Vertex(tail),
+            head: Vertex(head),
+            length,
+        })?;
+    }
+    Ok(GraphFile::new(vertices, rows))
+}
+
+#[test]
+fn the_middle_of_a_star_goes_after_its_points(rt: HostRuntime) -> Result<(), Fail> {
+    let arcs = [
+        (1, 2, 1),
+        (1, 3, 1),
+        (1, 4, 1),
+        (5, 1, 1),
+        (5, 6, 1),
+        (6, 5, 1),
+        (3, 3, 1),
+    ];
+    let star = Star::build(rt.alloc(), graph_of(rt.alloc(), 6, &arcs)?)?;
+    let order = order_of(rt.alloc(), &star)?;
+    let wanted = [
+        Vertex(2),
+        Vertex(3),
+        Vertex(1),
+        Vertex(4),
+        Vertex(5),
+        Vertex(6),
+    ];
+    assert_eq!(rt; order.vertices.as_slice(), wanted.as_slice());
+    Ok(())
+}
+
+#[test]
+fn wishes_come_first_and_once(rt: HostRuntime) -> Result<(), Fail> {
+    let order = order_by(rt.alloc(), 4, &[3, 9, 3, 0, 2])?;
+    let wanted = [Vertex(3), Vertex(2), Vertex(1), Vertex(4)];
+    assert_eq!(rt; order.vertices.as_slice(), wanted.as_slice());
+    Ok(())
+}

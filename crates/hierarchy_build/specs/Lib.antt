@@ -1,0 +1,5 @@
+pub mod Hills
+pub mod Runs
+pub mod Lengths
+pub mod Waits
+pub mod Hierarchy

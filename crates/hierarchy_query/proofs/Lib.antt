@@ -1,0 +1,4 @@
+pub mod Climbs
+pub mod Meets
+pub mod Asks
+pub mod DistanceLists

@@ -1,0 +1,12 @@
+//! Distances of a road graph by its hierarchy.
+#![tactic(auto)]
+
+mod climb;
+mod oracle;
+mod tables;
+
+pub use oracle::HierarchyOracle;
+pub use tables::{DistanceList, one_to_many};
+
+#[cfg(test)]
+mod tests;

@@ -1,0 +1,85 @@
+ghost use Rattle.std.specs.Prelude.{◌≡◌, IfOk};
+ghost use Rattle.hierarchy_build.specs.Hierarchy.{IsHierarchy};
+
+use crate::climb::least_hill;
+use forward_star::Star;
+use hierarchy_build::{Hierarchy, NO_LINK};
+use road_model::{NoMemory, Oracle, Vertex};
+use std::alloc::Global;
+use std::marker::Model;
+
+/// An oracle that answers each question by two climbs in a hierarchy.
+///
+/// It keeps 16 bytes a vertex. A question takes no memory, and the time of the links above its two vertices.
+#[derive(Drop)]
+pub struct HierarchyOracle<'a> {
+    star: &'a Star,
+    hierarchy: &'a Hierarchy,
+    forward: Vec<u64>,
+    backward: Vec<u64>,
+    asked: u64,
+    settled: u64,
+}
+
+impl<'a> Model for HierarchyOracle<'a> {
+    ghost use Rattle.hierarchy_query.specs.Asks.{Questions, IsReady};
+
+    ghost Value = { Questions };
+
+    ghost view = { λ o. record { graph = o.star.now; asked = o.asked } };
+
+    ghost invariant = { λ o. IsReady o.star.now o.hierarchy.now o.forward.items o.backward.items };
+}
+
+impl<'a> HierarchyOracle<'a> {
+    /// An oracle for a graph by a hierarchy of it, not asked yet.
+    pub fn new(
+        alloc: Global,
+        star: &'a Star,
+        hierarchy: &'a Hierarchy,
+    ) -> Result<HierarchyOracle<'a>, NoMemory>
+        requires { IsHierarchy star.now hierarchy.now }
+        ensures { IfOk result (λ o. o ≡ record { graph = star.now; asked = 0 }) }
+    {
+        let ranks = hierarchy.shape.order.len();
+        let forward = vec![in alloc; NO_LINK; ranks]?;
+        let backward = vec![in alloc; NO_LINK; ranks]?;
+        Ok(HierarchyOracle {
+            star,
+            hierarchy,
+            forward,
+            backward,
+            asked: 0,
+            settled: 0,
+        })
+    }
+}
+
+impl<'a> Oracle for HierarchyOracle<'a> {
+    ghost graph = { λ o. o.graph };
+
+    ghost asked = { λ o. o.asked };
+
+    fn distance(&mut self, from: Vertex, to: Vertex) -> Result<Option<u64>, NoMemory> {
+        let shape = &self.hierarchy.shape;
+        let s = shape.rank.as_slice()[from.number() as usize] as usize;
+        let t = shape.rank.as_slice()[to.number() as usize] as usize;
+        let (best, passed) = least_hill(
+            self.hierarchy,
+            s,
+            t,
+            &mut self.forward,
+            &mut self.backward,
+        );
+        self.settled = self.settled.saturating_add(passed);
+        self.asked = self.asked.saturating_add(1);
+        if best >= NO_LINK {
+            return Ok(None);
+        }
+        Ok(Some(best))
+    }
+
+    fn settled(&self) -> u64 {
+        self.settled
+    }
+}

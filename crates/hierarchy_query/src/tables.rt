@@ -1,0 +1,35 @@
+ghost use Rattle.std.specs.Prelude.{IfOk, All};
+ghost use Rattle.road_model.specs.Graph.{IsVertex};
+ghost use Rattle.hierarchy_build.specs.Hierarchy.{IsHierarchy};
+ghost use Rattle.hierarchy_query.specs.Tables.{AreDists};
+
+use crate::oracle::HierarchyOracle;
+use forward_star::Star;
+use hierarchy_build::Hierarchy;
+use road_model::{Items, NoMemory, Oracle, Vertex};
+use std::alloc::Global;
+
+/// Distances, in the order that the value's owner states; none where no walk leads.
+pub type DistanceList = Items<Option<u64>>;
+
+/// The distance from one vertex to each target, in its place. It takes the time of as many questions.
+pub fn one_to_many(
+    alloc: Global,
+    star: &Star,
+    hierarchy: &Hierarchy,
+    from: Vertex,
+    targets: &[Vertex],
+) -> Result<DistanceList, NoMemory>
+    requires hierarchy { IsHierarchy star.now hierarchy.now }
+    requires from { IsVertex star.now.vertices from }
+    requires targets { All (IsVertex star.now.vertices) targets.now }
+    ensures { IfOk result (λ ds. AreDists star.now from targets.now ds) }
+{
+    let mut oracle = HierarchyOracle::new(alloc, star, hierarchy)?;
+    let mut distances = Vec::with_capacity(alloc, targets.len())?;
+    for target in targets {
+        let distance = oracle.distance(from, *target)?;
+        distances.push(distance)?;
+    }
+    Ok(DistanceList::from_vec(distances))
+}
