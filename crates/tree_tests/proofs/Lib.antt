@@ -2,4 +2,5 @@ pub mod UpSteps
 pub mod Climbs
 pub mod Tables
 pub mod Repeats
-pub mod RefusedPieces
+pub mod OnPaths
+pub mod Pieces

@@ -1,2 +1,3 @@
 pub mod Sums
-pub mod Refusals
+pub mod Ancestors
+pub mod Never

@@ -2,9 +2,10 @@
 //! that it can't be admissible. No path is made.
 #![tactic(auto)]
 
+mod ancestors;
 mod refusals;
 mod sides;
 mod sums;
 
-pub use refusals::refuses_behind;
+pub use refusals::Refusals;
 pub use sums::SharedSums;

@@ -1,143 +1,222 @@
-//! Refusals by the two trees alone: a subpath round a vertex that fails a test, whose ends are as far apart as the
-//! tree of the source tells.
+//! Refusals by the two trees alone: a subpath round a vertex that fails a test, whose ends are as far apart as one of the
+//! trees tells.
 
-ghost use Rattle.std.specs.Prelude.{◌≡◌, IsTrue};
-ghost use Rattle.canonical_trees.specs.Trees.{IsInside};
-ghost use Rattle.tree_tests.specs.Refusals.{IsOnFirst, IsOnLast, IsNever, IsMeeting, IsAhead, pair_in};
+ghost use Rattle.std.specs.Prelude.{◌≡◌, ◌<◌, ◌^◌, IfOk, IfSome, IsTrue, None};
 ghost use Rattle.road_model.specs.Walk.{walk_length};
+ghost use Rattle.tree_tests.specs.Ancestors.{AreAncestors, HasNoEntry, IsOn, opposite};
+ghost use Rattle.tree_tests.specs.Never.{IsNever};
 
+use crate::ancestors::{Ancestor, ahead, fill, met};
+use crate::sides::{Side, label, opposite};
 use canonical_trees::TreePair;
-use road_model::{Optimum, Query, Vertex};
+use road_model::{NoMemory, Query, Vertex};
+use std::alloc::Global;
+use std::marker::Model;
 
-/// So many steps up the tree are tried, to find where two paths part.
-const MEETING_STEPS: u32 = 4096;
+/// How many arcs apart the places are that are tried on one side of a path.
+const STEPS: [u32; 7] = [1, 2, 4, 8, 16, 32, 64];
 
-/// So many ends are tried behind a vertex.
-const TRIES: u32 = 16;
-
-/// A vertex on the canonical paths to both, if one is found in so many steps.
-fn meet(pair: &TreePair<'_>, w: Vertex, x: Vertex, steps: u32) -> Option<Vertex>
-    requires first { IsOnFirst pair.now w w }
-    requires second { IsOnFirst pair.now x x }
-    ensures { IsMeeting pair.now w x result }
-{
-    let mut a = w;
-    let mut b = x;
-    for _ in 0..steps {
-        if a.number() == b.number() {
-            return Some(a);
-        }
-        let Some(near) = pair.from_label(a) else {
-            return None;
-        };
-        let Some(far) = pair.from_label(b) else {
-            return None;
-        };
-        if near < far {
-            let Some(step) = pair.from_step(b) else {
-                return None;
-            };
-            b = step.head;
-        } else {
-            let Some(step) = pair.from_step(a) else {
-                return None;
-            };
-            a = step.head;
-        }
-    }
-    None
-}
-
-/// The vertex so many steps towards the target, if the path is as long.
-fn ahead(pair: &TreePair<'_>, w: Vertex, x: Vertex, steps: u32) -> Option<Vertex>
-    requires { IsOnLast pair.now w x }
-    ensures { IsAhead pair.now w result }
-{
-    let mut at = x;
-    for _ in 0..steps {
-        let Some(step) = pair.to_step(at) else {
-            return None;
-        };
-        at = step.head;
-    }
-    Some(at)
-}
-
-/// The subpath from where the canonical paths to `w` and to `x` part, through `w`, to `x` fails a test.
-fn fails_up_to(pair: &TreePair<'_>, query: &Query, optimum: &Optimum, w: Vertex, x: Vertex) -> bool
-    requires trees { pair.now ≡ pair_in pair.now.graph query.now pair.now.radius }
-    requires length { optimum.now.length ≡ walk_length pair.now.graph optimum.now.arcs }
-    requires start { IsOnFirst pair.now w w }
-    requires end { IsOnFirst pair.now x x }
-    requires ahead { IsOnLast pair.now w x }
-    ensures { IsTrue result → IsNever pair.now.graph query.now optimum.now.arcs w }
-{
-    let Some(y) = meet(pair, w, x, MEETING_STEPS) else {
-        return false;
-    };
-    let Some(to_y) = pair.from_label(y) else {
-        return false;
-    };
-    let Some(to_x) = pair.from_label(x) else {
-        return false;
-    };
-    let Some(to_w) = pair.from_label(w) else {
-        return false;
-    };
-    let Some(from_w) = pair.to_label(w) else {
-        return false;
-    };
-    let Some(from_x) = pair.to_label(x) else {
-        return false;
-    };
-    if to_w < to_y {
-        return false;
-    }
-    if from_w < from_x {
-        return false;
-    }
-    if to_x < to_y {
-        return false;
-    }
-    let length = (to_w - to_y) + (from_w - from_x);
-    let distance = to_x - to_y;
-    if !query.epsilon.stretches(length, distance) {
-        return true;
-    }
-    if length == distance {
-        return false;
-    }
-    if query.alpha.allows(length, optimum.length) {
-        return true;
-    }
-    false
-}
-
-/// The path through `w` is never admissible, since a subpath from before `w` to 1, 3, 7 or more steps behind it
-/// fails a test. `false` says nothing. Takes no memory; each try takes the time of the arcs on the way to where the
-/// canonical paths part, and at most 4096 steps.
-pub fn refuses_behind(pair: &TreePair<'_>, query: &Query, optimum: &Optimum, w: Vertex) -> bool
-    requires trees { pair.now ≡ pair_in pair.now.graph query.now pair.now.radius }
-    requires length { optimum.now.length ≡ walk_length pair.now.graph optimum.now.arcs }
-    requires from { IsInside pair.now.graph pair.now.radius pair.now.source w }
-    requires to { IsInside pair.now.graph pair.now.radius w pair.now.target }
-    ensures { IsTrue result → IsNever pair.now.graph query.now optimum.now.arcs w }
+/// The subpath between `y` and `x` by way of `w` has to be shortest and isn't, or is stretched too far. Both lie on
+/// canonical paths of `w`, and `y` on the one of `x` too, so that their distance is the difference of two labels.
+fn is_detour(
+    pair: &TreePair<'_>,
+    side: Side,
+    y: Vertex,
+    w: Vertex,
+    x: Vertex,
+    query: &Query,
+    opt_len: u64,
+) -> bool
+    requires { query.now.from ≡ pair.now.source }
+    ensures { IsTrue result → IsOn pair.now side y w → IsOn pair.now side y x → IsOn pair.now (opposite side) x w →
+        IsNever pair.now query.now opt_len w }
 {
     let _limits = pair.star().graph();
+    let other = opposite(side);
+    let Some(start) = label(pair, side, y) else {
+        return false;
+    };
+    let Some(end) = label(pair, side, x) else {
+        return false;
+    };
+    let Some(near) = label(pair, side, w) else {
+        return false;
+    };
+    let Some(left) = label(pair, other, w) else {
+        return false;
+    };
+    let Some(rest) = label(pair, other, x) else {
+        return false;
+    };
+    if near < start || left < rest || end < start {
+        return false;
+    }
+    let long = (near - start) + (left - rest);
+    let distance = end - start;
+    if !query.epsilon.stretches(long, distance) {
+        return true;
+    }
+    if long == distance {
+        return false;
+    }
+    query.alpha.allows(long, opt_len)
+}
+
+/// The ways to both roots, which are kept once they are known.
+#[derive(Drop)]
+pub struct Refusals<'a> {
+    pair: &'a TreePair<'a>,
+    from: Vec<Option<Ancestor>>,
+    to: Vec<Option<Ancestor>>,
+    stack: Vec<Vertex>,
+}
+
+impl<'a> Model for Refusals<'a> {
+    ghost use Rattle.canonical_trees.specs.Trees.{Trees};
+    ghost use Rattle.tree_tests.specs.Ancestors.{AreWays};
+
+    ghost Value = { Trees };
+
+    ghost view = { λ r. r.pair.now };
+
+    ghost invariant = { λ r. AreWays r.pair.now r.from.items r.to.items };
+}
+
+/// A table without an entry, for vertices up to this number.
+fn no_entries(alloc: Global, vertices: u32) -> Result<Vec<Option<Ancestor>>, NoMemory>
+    ensures { IfOk result (λ es. HasNoEntry es.items) }
+{
+    let mut entries = Vec::new(alloc);
+    for _ in 0..=vertices {
+        entries.push(None)?;
+    }
+    Ok(entries)
+}
+
+/// The walk through `w` has a detour that ends at `x`, or begins there, on its way to the other root.
+fn tried(
+    pair: &TreePair<'_>,
+    side: Side,
+    own: &mut [Option<Ancestor>],
+    stack: &mut Vec<Vertex>,
+    w: Vertex,
+    x: Vertex,
+    query: &Query,
+    opt_len: u64,
+) -> Result<bool, NoMemory>
+    requires from { query.now.from ≡ pair.now.source }
+    requires ways { AreAncestors pair.now side own.old }
+    ensures ways { AreAncestors pair.now side own.new }
+    ensures never { IfOk result (λ r. IsTrue r → IsOn pair.now (opposite side) x w → IsNever pair.now query.now opt_len w) }
+{
+    let _limits = pair.star().graph();
+    let Some(_near) = label(pair, side, w) else {
+        return Ok(false);
+    };
+    let Some(_far) = label(pair, side, x) else {
+        return Ok(false);
+    };
+    fill(pair, side, own, stack, x)?;
+    let Some(y) = met(own, w, x) else {
+        return Ok(false);
+    };
+    Ok(is_detour(pair, side, y, w, x, query, opt_len))
+}
+
+/// The walk through `w` has a detour that begins on the way of `w` to one root and ends on the way to the other.
+fn has_detour(
+    pair: &TreePair<'_>,
+    side: Side,
+    own: &mut [Option<Ancestor>],
+    other: &mut [Option<Ancestor>],
+    stack: &mut Vec<Vertex>,
+    w: Vertex,
+    query: &Query,
+    opt_len: u64,
+) -> Result<bool, NoMemory>
+    requires from { query.now.from ≡ pair.now.source }
+    requires ways { AreAncestors pair.now side own.old }
+    requires others { AreAncestors pair.now (opposite side) other.old }
+    ensures ways { AreAncestors pair.now side own.new }
+    ensures others { AreAncestors pair.now (opposite side) other.new }
+    ensures never { IfOk result (λ r. IsTrue r → IsNever pair.now query.now opt_len w) }
+{
+    fill(pair, side, own, stack, w)?;
+    fill(pair, opposite(side), other, stack, w)?;
     let mut x = w;
-    let mut steps = 1u32;
-    for _ in 0..TRIES {
-        let Some(next) = ahead(pair, w, x, steps) else {
-            return false;
+    for steps in STEPS {
+        let Some(next) = ahead(other, x, steps) else {
+            return Ok(false);
         };
         x = next;
-        let Some(_near) = pair.from_label(x) else {
-            return false;
-        };
-        if fails_up_to(pair, query, optimum, w, x) {
-            return true;
+        if tried(pair, side, own, stack, w, x, query, opt_len)? {
+            return Ok(true);
         }
-        steps = steps.saturating_mul(2);
     }
-    false
+    Ok(false)
+}
+
+impl<'a> Refusals<'a> {
+    /// No way yet. Takes 32 bytes a vertex.
+    pub fn new(alloc: Global, pair: &'a TreePair<'a>) -> Result<Refusals<'a>, NoMemory>
+        ensures { IfOk result (λ r. r ≡ pair.now) }
+    {
+        let vertices = pair.star().graph().vertices();
+        let from = no_entries(alloc, vertices)?;
+        let to = no_entries(alloc, vertices)?;
+        Ok(Refusals {
+            pair,
+            from,
+            to,
+            stack: Vec::new(alloc),
+        })
+    }
+
+    /// The path through `w` is refused: it can't be admissible, since a subpath of it that ends so many arcs after `w`
+    /// has to be shortest and isn't, or is stretched too far. Such places are tried at 1, 3, 7 and more arcs. False says
+    /// nothing. Takes logarithmic time for each of them, once the ways to the roots are known.
+    pub fn refuses_after(
+        &mut self,
+        w: Vertex,
+        query: &Query,
+        opt_len: u64,
+    ) -> Result<bool, NoMemory>
+        requires from { query.now.from ≡ self.old.source }
+        ensures never { IfOk result (λ r. IsTrue r → IsNever self.old query.now opt_len w) }
+        ensures same { self.new ≡ self.old }
+    {
+        has_detour(
+            self.pair,
+            Side::Source,
+            self.from.as_mut_slice(),
+            self.to.as_mut_slice(),
+            &mut self.stack,
+            w,
+            query,
+            opt_len,
+        )
+    }
+
+    /// The same by subpaths that begin so many arcs before `w`.
+    pub fn refuses_before(
+        &mut self,
+        w: Vertex,
+        query: &Query,
+        opt_len: u64,
+    ) -> Result<bool, NoMemory>
+        requires from { query.now.from ≡ self.old.source }
+        ensures never { IfOk result (λ r. IsTrue r → IsNever self.old query.now opt_len w) }
+        ensures same { self.new ≡ self.old }
+    {
+        has_detour(
+            self.pair,
+            Side::Target,
+            self.to.as_mut_slice(),
+            self.from.as_mut_slice(),
+            &mut self.stack,
+            w,
+            query,
+            opt_len,
+        )
+    }
 }

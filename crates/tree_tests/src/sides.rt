@@ -1,6 +1,7 @@
 //! One tree or the other, seen from a vertex: its root is the source or the target.
 
-ghost use Rattle.std.specs.Prelude.{◌<◌, ◌^◌};
+ghost use Rattle.std.specs.Prelude.{◌≡◌, ◌<◌, ◌^◌, IfSome};
+ghost use Rattle.tree_tests.specs.Ancestors.{opposite};
 ghost use Rattle.tree_tests.specs.Sums.{IsInTree, IsUp, TreeDist};
 
 use canonical_trees::TreePair;
@@ -34,5 +35,26 @@ pub(crate) fn distance(pair: &TreePair<'_>, side: Side, v: Vertex) -> u64
     match side {
         Side::Source => pair.from_label(v).unwrap(),
         Side::Target => pair.to_label(v).unwrap(),
+    }
+}
+
+/// The other tree.
+pub(crate) fn opposite(side: Side) -> Side
+    ensures { result ≡ opposite side }
+{
+    match side {
+        Side::Source => Side::Target,
+        Side::Target => Side::Source,
+    }
+}
+
+/// The distance between a vertex and the root, where the vertex is inside the ball.
+pub(crate) fn label(pair: &TreePair<'_>, side: Side, v: Vertex) -> Option<u64>
+    ensures is { IfSome result (TreeDist pair.now side v) }
+    ensures short { IfSome result (λ d. d < 2 ^ 57) }
+{
+    match side {
+        Side::Source => pair.from_label(v),
+        Side::Target => pair.to_label(v),
     }
 }
