@@ -16,7 +16,7 @@ pub struct Order {
 /// An order for the vertices of a graph: by least estimated edge difference, in a quotient graph. Which order it
 /// is changes how large a hierarchy becomes, and no answer.
 ///
-/// On a road network it takes some 4 us a vertex, and some 100 bytes.
+/// Its memory is linear in the arcs and in the links that it makes; the time is nearly so on road networks.
 pub fn order_of(alloc: Global, star: &Star) -> Result<Order, NoMemory>
     ensures { IfOk result (λ o. IsOrder star.now.vertices o.vertices) }
 {

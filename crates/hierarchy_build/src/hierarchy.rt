@@ -57,7 +57,7 @@ fn lengths_of(alloc: Global, shape: &Shape, star: &Star) -> Result<Lengths, NoMe
 }
 
 /// The hierarchy of a graph for a shape of it, as that of an earlier version with the same ends of arcs. It
-/// takes the time of its triangles, some 5 ns each, and no queue.
+/// takes time linear in its triangles, and no queue.
 pub fn customise(
     alloc: Global,
     shape: Arc<Shape, Global>,

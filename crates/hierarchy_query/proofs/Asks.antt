@@ -1,9 +1,8 @@
 -- The least hill between the ranks of two vertices is their distance.
-use Rattle.std.proofs.Common.{◌≡◌, ◌<◌, ◌≤◌, ℕ, List, Some, None, length, slice_index, sym, ap, ◌∙◌, subst, arith}
+use Rattle.std.proofs.Common.{◌≡◌, ◌<◌, ◌≤◌, ℕ, Some, None, slice_index, subst, arith}
 use Rattle.road_model.specs.Graph.{Graph, IsVertex}
 use Rattle.road_model.specs.Dist.{IsDist}
 use Rattle.hierarchy_build.specs.declared.hierarchy.Hierarchy.{Hierarchy}
-use Rattle.hierarchy_build.specs.Hills.{HasHill, NoneLower}
 use Rattle.hierarchy_build.specs.Lengths.{no_link}
 use Rattle.hierarchy_build.specs.Hierarchy.{IsHierarchy}
 use Rattle.hierarchy_query.specs.Climbs.{IsLeastHill}

@@ -7,9 +7,9 @@ use Rattle.hierarchy_build.specs.Hills.{IsRise, rise_length, HasRise}
 use Rattle.hierarchy_build.specs.Runs.{InSpan, IsUp, IsShape}
 use Rattle.hierarchy_build.specs.Lengths.{no_link, LinkAt}
 use Rattle.hierarchy_build.proofs.Hills.{IsRise-push, rise_length-push, same_or_other}
-use Rattle.hierarchy_build.proofs.Runs.{head_inside, place_inside}
+use Rattle.hierarchy_build.proofs.Runs.{head_inside}
 use Rattle.hierarchy_build.proofs.Pushes.{lowered, lowered_at, lowered_cases}
-use Rattle.hierarchy_query.specs.Climbs.{IsBlank, CanClimb, IsReached, IsRelaxed, Climbing, IsClimbed, IsPath, Above}
+use Rattle.hierarchy_query.specs.Climbs.{IsBlank, CanClimb, IsReached, IsRelaxed, Climbing, IsClimbed}
 
 -- the links from x up to the place k have been relaxed
 pub record RelaxedSoFar (first head lengths : List ℕ) (x k : ℕ) (old new : List ℕ) : Type 0 where

@@ -1,13 +1,13 @@
 -- Chains of parents, the meeting of two climbs, and the least hill.
-use Rattle.std.proofs.Common.{◌≡◌, ◌≢◌, ◌+◌, ◌<◌, ◌≤◌, ◌⊎◌, ℕ, min, List, [], ◌∷◌, ◌++◌, length, slice_index, set, refl, sym, ap, ◌∙◌, subst, arith, inl, inr, ⊎_elim, get_or-set_same, get_or-set_other}
+use Rattle.std.proofs.Common.{◌≡◌, ◌≢◌, ◌+◌, ◌<◌, ◌≤◌, ◌⊎◌, ℕ, min, List, [], ◌∷◌, length, slice_index, set, sym, ap, ◌∙◌, subst, arith, inl, inr, ⊎_elim, get_or-set_same, get_or-set_other}
 use Rattle.std.proofs.Math.ListN.{length-set}
 use Rattle.std.proofs.lemmas.Bool.{cases_lt}
-use Rattle.hierarchy_build.specs.Hills.{IsRise, rise_length, HasRise, Hill, HasHill}
+use Rattle.hierarchy_build.specs.Hills.{IsRise, rise_length}
 use Rattle.hierarchy_build.specs.Runs.{InSpan, IsUp, IsShape}
 use Rattle.hierarchy_build.specs.Lengths.{no_link, LinkAt}
 use Rattle.hierarchy_build.proofs.Hills.{same_or_other}
 use Rattle.hierarchy_build.proofs.Runs.{head_inside}
-use Rattle.hierarchy_query.specs.Climbs.{IsBlank, CanClimb, IsClimbed, IsPath, Above, CanMeet, IsMeeting, IsLeastHill}
+use Rattle.hierarchy_query.specs.Climbs.{IsBlank, IsClimbed, IsPath, Above, CanMeet, IsMeeting, IsLeastHill}
 use Rattle.hierarchy_query.proofs.Climbs.{over_parent}
 
 along_parent : (n : ℕ) (first head : List ℕ) (x : ℕ) (p : List ℕ) (y : ℕ) → IsShape n first head → x < n → IsPath first head x p y → (x ≡ y) ⊎ Above first head (slice_index head (slice_index first x)) y

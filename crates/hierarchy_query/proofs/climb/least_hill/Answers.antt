@@ -1,7 +1,6 @@
-use Rattle.std.proofs.Common.{◌≡◌, ◌<◌, ◌⊎◌, ℕ, List, length, slice_index, sym, ap, ◌∙◌, subst, arith, rules}
+use Rattle.std.proofs.Common.{◌≡◌, ℕ, List, length, sym, subst, arith, rules}
 use Rattle.hierarchy_build.specs.Runs.{IsShape}
-use Rattle.hierarchy_build.specs.Lengths.{no_link, LinkAt}
-use Rattle.hierarchy_query.specs.Climbs.{Above, IsClimbed, IsLeastHill}
+use Rattle.hierarchy_query.specs.Climbs.{IsClimbed}
 use Rattle.hierarchy_query.proofs.Meets.{above_of_climbed, blank_or_above, IsLeastHill-met}
 use Rattle.hierarchy_query.proofs.climb.least_hill.Goals as goal
 

@@ -1,4 +1,4 @@
-use Rattle.std.proofs.Common.{◌≡◌, ◌<◌, ◌≤◌, ℕ, Some, None, List, length, slice_index, sym, ap, ◌∙◌, subst, arith, rules}
+use Rattle.std.proofs.Common.{◌≡◌, ℕ, Some, None, List, length, slice_index, sym, ap, ◌∙◌, subst, arith, rules}
 use Rattle.road_model.specs.Graph.{Graph, IsVertex}
 use Rattle.road_model.specs.Dist.{IsDist}
 use Rattle.hierarchy_query.specs.Asks.{Questions}
