@@ -22,7 +22,7 @@ use Rattle.canonical_trees.proofs.ThroughVertex.{IsVia-unique, via_walk, via_par
 use Rattle.plateau_finder.specs.declared.plateau.Plateau.{Plateau}
 use Rattle.plateau_finder.specs.Plateaus.{IsInBoth, IsPlateauOf, IsListed}
 use Rattle.tree_tests.specs.Sums.{Shares, carried}
-use Rattle.tree_tests.specs.Refusals.{IsNever, pair_in}
+use Rattle.tree_tests.specs.Never.{IsNever}
 use Rattle.tree_tests.proofs.UpSteps.{carried-le}
 use Rattle.tree_tests.proofs.Repeats.{carries_too_much, carried_of_admissible, bounded_is_distinct, shortest_is_distinct, shared_is_carried}
 use Rattle.via_search.specs.declared.candidates.Candidate.{Candidate}
@@ -199,10 +199,12 @@ route_made g q o n sum c x r posed bound h tests is part via long common plateau
     }
 
 -- the trees refuse it
-pub trees_of : (g : Graph) (q : Query) (n : ℕ) (ts : Trees) → ts ≡ pair_of g q n → ts ≡ pair_in ts.graph q ts.radius
-trees_of g q n ts is = subst (λ (x : Trees). x ≡ pair_in x.graph q x.radius) (sym is) refl
+pub refused_after : (g : Graph) (q : Query) (o : Optimum) (n : ℕ) (c : Plateau) (ts : Trees) → ts ≡ pair_of g q n → IsPosed g q o → IsNever ts q o.length c.last → IsRouteOf g q o.arcs (pair_of g q n) c None
+refused_after g q o n c ts is posed never p plateau alternative =
+    let here : IsNever (pair_of g q n) q o.length c.last = subst (λ (x : Trees). IsNever x q o.length c.last) is never in
+    here o.arcs p (sym posed.best.1) plateau.last alternative.admissible
 
-pub never_listed : (g : Graph) (q : Query) (o : Optimum) (n : ℕ) (c : Plateau) (ts : Trees) → ts ≡ pair_of g q n → IsNever ts.graph q o.arcs c.last → IsRouteOf g q o.arcs (pair_of g q n) c None
-never_listed g q o n c ts is never p plateau alternative =
-    let here : IsNever g q o.arcs c.last = subst (λ (x : Trees). IsNever x.graph q o.arcs c.last) is never in
-    here p plateau.last alternative.admissible
+pub refused_before : (g : Graph) (q : Query) (o : Optimum) (n : ℕ) (c : Plateau) (ts : Trees) → ts ≡ pair_of g q n → IsPosed g q o → IsNever ts q o.length c.first → IsRouteOf g q o.arcs (pair_of g q n) c None
+refused_before g q o n c ts is posed never p plateau alternative =
+    let here : IsNever (pair_of g q n) q o.length c.first = subst (λ (x : Trees). IsNever x q o.length c.first) is never in
+    here o.arcs p (sym posed.best.1) plateau.first alternative.admissible

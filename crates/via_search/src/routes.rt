@@ -19,7 +19,7 @@ use plateau_finder::{Plateau, plateaus_within};
 use road_model::{NoMemory, Optimum, Oracle, Query, Route, RouteList};
 use route_ranking::{order_routes, rank};
 use std::alloc::Global;
-use tree_tests::{SharedSums, refuses_behind};
+use tree_tests::{Refusals, SharedSums};
 
 /// The route of a plateau's path, where it is an alternative. The optimum is known by the target, which is among
 /// the vertices of its plateau alone.
@@ -32,6 +32,7 @@ fn route_of<O: Oracle>(
     optimum: &Optimum,
     bound: u64,
     sums: &mut SharedSums<'_>,
+    ways: &mut Refusals<'_>,
     plateau: &Plateau,
 ) -> Result<Option<Route>, NoMemory>
     requires posed { IsPosed star.now query.now optimum.now }
@@ -39,10 +40,12 @@ fn route_of<O: Oracle>(
     requires bound { IsBoundOf query.now optimum.now.length bound }
     requires trees { pair.now ≡ pair_of star.now query.now bound }
     requires sums { sums.old ≡ record { trees = pair_of star.now query.now bound; optimum = optimum.now.arcs } }
+    requires ways { ways.old ≡ pair_of star.now query.now bound }
     requires listed { IsListed (pair_of star.now query.now bound) (Some bound) plateau.now }
     ensures route { IfOk result
         (IsRouteOf star.now query.now optimum.now.arcs (pair_of star.now query.now bound) plateau.now) }
     ensures sums { sums.new ≡ sums.old }
+    ensures ways { ways.new ≡ ways.old }
     ensures same { O.graph oracle.new ≡ O.graph oracle.old }
     ensures counted { StaysCounted (O.asked oracle.old) (O.asked oracle.new) }
     ensures asks { AsksFor star.now query.now.from query.now.to bound optimum.now.arcs plateau.now.least
@@ -55,7 +58,10 @@ fn route_of<O: Oracle>(
     if !within_share(shared, &query.gamma, optimum.length) {
         return Ok(None);
     }
-    if refuses_behind(pair, query, optimum, plateau.last) {
+    if ways.refuses_after(plateau.last, query, optimum.length)? {
+        return Ok(None);
+    }
+    if ways.refuses_before(plateau.first, query, optimum.length)? {
         return Ok(None);
     }
     let Some(candidate) = candidate_of(alloc, pair, plateau.least, bound)? else {
@@ -97,10 +103,11 @@ fn routes_of<O: Oracle>(
         (O.asked oracle.old) (O.asked oracle.new) }
 {
     let mut sums = SharedSums::new(alloc, pair, &optimum.arcs)?;
+    let mut ways = Refusals::new(alloc, pair)?;
     let mut routes = RouteList::new(alloc);
     for plateau in plateaus {
         if let Some(route) = route_of(
-            alloc, star, pair, oracle, query, optimum, bound, &mut sums, plateau,
+            alloc, star, pair, oracle, query, optimum, bound, &mut sums, &mut ways, plateau,
         )? {
             routes.push(route)?;
         }

@@ -4,7 +4,7 @@ use Rattle.road_model.specs.declared.answer.Query.{Query}
 use Rattle.road_model.specs.Walk.{walk_length}
 use Rattle.canonical_trees.specs.Trees.{Trees, IsInside}
 use Rattle.via_search.proofs.PathsThrough.{found_here, found_some}
-use Rattle.via_search.proofs.PlateauPaths.{not_optimum_route, shares_too_much, fails_a_test, has_candidate, passes, named_of, short_of, other_of, plateau_fits, trees_of, never_listed, sum_here, sum_fits, tried_passed, route_made}
+use Rattle.via_search.proofs.PlateauPaths.{not_optimum_route, shares_too_much, fails_a_test, has_candidate, passes, named_of, short_of, other_of, plateau_fits, refused_after, refused_before, sum_here, sum_fits, tried_passed, route_made}
 use Rattle.via_search.proofs.AskedSums.{asks_named}
 use Rattle.via_search.proofs.routes.route_of.Goals as goal
 
@@ -18,19 +18,16 @@ returns-then-not-within_share-clause-route g c =
     shares_too_much c.args.star.now c.args.query.now c.args.optimum.now c.args.bound c.through-shared.result c.args.plateau.now c.args.sums.now
     c.requires.posed c.requires.bound c.requires.sums c.through-shared.ensures.sum (iff_false c.within_share.ensures c.if-not-within_share.true)
 
-pub refuses_behind-requires : goal.refuses_behind-requires
-refuses_behind-requires g c =
-    let inside = c.requires.listed.is.last_inside in
-    record {
-      trees = trees_of c.args.star.now c.args.query.now c.args.bound c.args.pair.now c.requires.trees;
-      length = subst (λ (ts : Trees). c.args.optimum.now.length ≡ walk_length ts.graph c.args.optimum.now.arcs) (sym c.requires.trees) c.requires.posed.best.1;
-      from = subst (λ (ts : Trees). IsInside ts.graph ts.radius ts.source c.args.plateau.now.last) (sym c.requires.trees) c.requires.listed.is.last_inside.from;
-      to = subst (λ (ts : Trees). IsInside ts.graph ts.radius c.args.plateau.now.last ts.target) (sym c.requires.trees) c.requires.listed.is.last_inside.to;
-    }
+pub returns-then-branch-clause-route : goal.returns-then-branch-clause-route
+returns-then-branch-clause-route g c =
+    refused_after c.args.star.now c.args.query.now c.args.optimum.now c.args.bound c.args.plateau.now c.args.ways.now c.requires.ways c.requires.posed
+    (c.in_ok-refuses_after.ensures.never c.if-branch.true)
 
-pub returns-then-refuses_behind-clause-route : goal.returns-then-refuses_behind-clause-route
-returns-then-refuses_behind-clause-route g c =
-    never_listed c.args.star.now c.args.query.now c.args.optimum.now c.args.bound c.args.plateau.now c.args.pair.now c.requires.trees (c.refuses_behind.ensures c.if-refuses_behind.true)
+pub returns-then-branch-2-clause-route : goal.returns-then-branch-2-clause-route
+returns-then-branch-2-clause-route g c =
+    refused_before c.args.star.now c.args.query.now c.args.optimum.now c.args.bound c.args.plateau.now c.refuses_after.new.self
+    (c.refuses_after.ensures.same ∙ c.requires.ways) c.requires.posed
+    (c.in_ok-refuses_before.ensures.never c.if-branch-2.true)
 
 pub candidate_of-requires : goal.candidate_of-requires
 candidate_of-requires g c = ap (λ (ts : Trees). ts.radius) c.requires.trees

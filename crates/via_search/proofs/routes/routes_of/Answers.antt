@@ -22,6 +22,7 @@ loop-plateau-init g c =
       asks = asks_start c.args.star.now c.args.query.now.from c.args.query.now.to c.args.bound c.args.optimum.now.arcs c.args.plateaus.now (g.O.Oracle.asked c.args.oracle.now);
       listed = listed_start c.args.star.now c.args.query.now c.args.optimum.now.arcs (pair_of c.args.star.now c.args.query.now c.args.bound) c.args.plateaus.now c.new-routes.result c.new-routes.ensures;
       sums = c.in_ok-sums.ensures ∙ ap shares c.requires.trees;
+      ways = c.in_ok-ways.ensures ∙ c.requires.trees;
     }
 
 pub route_of-requires : goal.route_of-requires
@@ -34,6 +35,7 @@ route_of-requires g c =
       bound = c.requires.bound;
       trees = c.requires.trees;
       sums = c.loop-plateau.invariant.sums;
+      ways = c.loop-plateau.invariant.ways;
       listed = each;
     }
 
@@ -51,13 +53,14 @@ loop-plateau-preserved g c =
           let o = c.args.optimum.now.arcs in
           let ts = pair_of c.args.star.now c.args.query.now c.args.bound in
           let cs = c.args.plateaus.now in
-          elim c.match-branch-3.branch [
+          elim c.match-branch-4.branch [
             | in-Some+in_ok-push w ↦
-                listed_some net q o ts (Some c.args.bound) cs c.loop-plateau.plateau-index c.plateau-item.result c.loop-plateau.routes c.match-branch-3.routes c.in_ok-route.field-0 w.in-Some.route c.requires.plateaus here c.loop-plateau.invariant.listed c.in_ok-route.ensures.route w.in-Some.is (w.routes-is ∙ w.in_ok-push.ensures.ok)
+                listed_some net q o ts (Some c.args.bound) cs c.loop-plateau.plateau-index c.plateau-item.result c.loop-plateau.routes c.match-branch-4.routes c.in_ok-route.field-0 w.in-Some.route c.requires.plateaus here c.loop-plateau.invariant.listed c.in_ok-route.ensures.route w.in-Some.is (w.routes-is ∙ w.in_ok-push.ensures.ok)
             | in_default w ↦
-                listed_none net q o ts cs c.loop-plateau.plateau-index c.plateau-item.result c.loop-plateau.routes c.match-branch-3.routes c.in_ok-route.field-0 here c.loop-plateau.invariant.listed c.in_ok-route.ensures.route w.in_default.is w.routes-is
+                listed_none net q o ts cs c.loop-plateau.plateau-index c.plateau-item.result c.loop-plateau.routes c.match-branch-4.routes c.in_ok-route.field-0 here c.loop-plateau.invariant.listed c.in_ok-route.ensures.route w.in_default.is w.routes-is
           ];
       sums = c.route_of.ensures.sums ∙ c.loop-plateau.invariant.sums;
+      ways = c.route_of.ensures.ways ∙ c.loop-plateau.invariant.ways;
     }
 
 pub returns-in_err-route-clause-asks : goal.returns-in_err-route-clause-asks

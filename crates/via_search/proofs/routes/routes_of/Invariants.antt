@@ -13,4 +13,5 @@ invariant-loop-plateau g l = record {
   asks : AsksSoFar l.star l.query.from l.query.to l.bound l.optimum.arcs l.plateaus l.plateau-index (g.O.Oracle.asked l.fn.oracle) (g.O.Oracle.asked l.oracle);
   listed : AreListed l.star l.query l.optimum.arcs (pair_of l.star l.query l.bound) l.plateaus l.plateau-index l.routes;
   sums : l.sums ≡ record { trees = pair_of l.star l.query l.bound; optimum = l.optimum.arcs };
+  ways : l.ways ≡ pair_of l.star l.query l.bound;
 }
