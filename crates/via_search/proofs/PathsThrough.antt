@@ -76,3 +76,9 @@ inside_through g s t v l h =
 pub named_through : (g : Graph) (s t v l n : ℕ) (c : Candidate) → c.via ≡ v → IsCandidate g s t c → walk_length g c.arcs ≤ l → NamesPath (record { graph = g; source = s; target = t; radius = Some l }) v n → IsName g s t c.arcs n
 named_through g s t v l n c same own within names =
     names c.arcs (subst (λ (x : ℕ). IsVia g s t x c.arcs) same own.through) within
+
+-- there is a candidate of a vertex that a path within the bound leads through
+pub not_through : (g : Graph) (s t v l : ℕ) (o : Option Candidate) → FindsCandidate g s t l v o → o ≡ None → HasPathThrough g s t v l → ⊥
+not_through g s t v l o h none through =
+    let far : (p : List ℕ) → IsVia g s t v p → l < walk_length g p = subst (λ (x : Option Candidate). FindsCandidate g s t l v x) none h in
+    omega (arith, far through.path through.through, through.is_length)

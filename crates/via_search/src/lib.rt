@@ -13,8 +13,8 @@ mod planning;
 mod routes;
 mod verdicts;
 
-pub use planning::plan;
-pub use verdicts::verdict;
+pub use planning::{plan, plan_in};
+pub use verdicts::{verdict, verdict_in};
 
 #[cfg(test)]
 mod tests;

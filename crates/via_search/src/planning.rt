@@ -8,7 +8,7 @@ ghost use Rattle.via_search.specs.Judging.{StaysCounted};
 ghost use Rattle.via_search.specs.Asks.{AsksForPlan};
 
 use crate::routes::alternatives;
-use canonical_trees::optimum;
+use canonical_trees::{TreeMemory, optimum_in};
 use forward_star::Star;
 use road_model::{NoMemory, Oracle, Plan, Query};
 use std::alloc::Global;
@@ -16,10 +16,35 @@ use std::alloc::Global;
 /// The whole answer of a query: no path exactly where no walk leads there; else the optimum, and every other
 /// admissible single-via path once, in rank order.
 ///
-/// It takes a search that stops at the target, and two searches up to the stretch bound of the optimum; 48 bytes a
-/// vertex, and 4 bytes an arc of each path that is listed. What a path shares is told by sums along the trees, and
+/// It takes a search that stops at the target, and two searches up to the stretch bound of the optimum, in the memory
+/// that is handed in and kept for the next query: 16 bytes a vertex. Beside it, 64 bytes a vertex, and 4 bytes an arc
+/// of each path that is listed. What a path shares is told by sums along the trees, and
 /// most that fail a test by the trees alone; each path that is left is put to the oracle once. An `Err` leaves the
 /// oracle as good as before.
+pub fn plan_in<O: Oracle>(
+    alloc: Global,
+    memory: &mut TreeMemory,
+    star: &Star,
+    oracle: &mut O,
+    query: &Query,
+) -> Result<Plan, NoMemory>
+    requires source { IsVertex star.now.vertices query.now.from }
+    requires target { IsVertex star.now.vertices query.now.to }
+    requires same { HaveSameDist star.now (O.graph oracle.old) }
+    ensures answer { IfOk result (IsAnswer star.now query.now) }
+    ensures same { O.graph oracle.new ≡ O.graph oracle.old }
+    ensures counted { StaysCounted (O.asked oracle.old) (O.asked oracle.new) }
+    ensures asks { AsksForPlan star.now query.now (O.asked oracle.old) (O.asked oracle.new) }
+{
+    let _limits = star.graph();
+    let Some(optimum) = optimum_in(alloc, memory, star, query.from, query.to)? else {
+        return Ok(Plan::NoPath);
+    };
+    let others = alternatives(alloc, memory, star, oracle, query, &optimum)?;
+    Ok(Plan::Found { optimum, others })
+}
+
+/// The same in memory of its own, which is laid out for this query alone.
 pub fn plan<O: Oracle>(
     alloc: Global,
     star: &Star,
@@ -34,10 +59,7 @@ pub fn plan<O: Oracle>(
     ensures counted { StaysCounted (O.asked oracle.old) (O.asked oracle.new) }
     ensures asks { AsksForPlan star.now query.now (O.asked oracle.old) (O.asked oracle.new) }
 {
-    let _limits = star.graph();
-    let Some(optimum) = optimum(alloc, star, query.from, query.to)? else {
-        return Ok(Plan::NoPath);
-    };
-    let others = alternatives(alloc, star, oracle, query, &optimum)?;
-    Ok(Plan::Found { optimum, others })
+    let mut memory = TreeMemory::new(alloc);
+    let plan = plan_in(alloc, &mut memory, star, oracle, query)?;
+    Ok(plan)
 }

@@ -12,7 +12,7 @@ ghost use Rattle.via_search.specs.Listing.{IsRouteOf};
 
 use crate::candidates::candidate_of;
 use crate::judging::{Tried, put_to_oracle};
-use canonical_trees::{TreePair, trees};
+use canonical_trees::{TreeMemory, TreePair, trees_in};
 use forward_star::Star;
 use path_tests::within_share;
 use plateau_finder::{Plateau, plateaus_within};
@@ -116,9 +116,10 @@ fn routes_of<O: Oracle>(
     Ok(routes)
 }
 
-/// All alternatives, in order.
+/// All alternatives, in order. The trees are made in the memory, which is given back.
 pub(crate) fn alternatives<O: Oracle>(
     alloc: Global,
+    memory: &mut TreeMemory,
     star: &Star,
     oracle: &mut O,
     query: &Query,
@@ -133,7 +134,7 @@ pub(crate) fn alternatives<O: Oracle>(
     ensures asks { AsksForPlan star.now query.now (O.asked oracle.old) (O.asked oracle.new) }
 {
     let bound = query.epsilon.bound(optimum.length);
-    let pair = trees(alloc, star, query.from, query.to, Some(bound))?;
+    let pair = trees_in(alloc, memory, star, query.from, query.to, Some(bound))?;
     let plateaus = plateaus_within(alloc, &pair, bound)?;
     let routes = routes_of(
         alloc,
@@ -145,5 +146,6 @@ pub(crate) fn alternatives<O: Oracle>(
         bound,
         plateaus.as_slice(),
     )?;
+    *memory = pair.into_memory();
     Ok(routes)
 }

@@ -5,14 +5,14 @@ ghost use Rattle.road_model.specs.Graph.{IsVertex};
 ghost use Rattle.road_model.specs.Dist.{IsDist, HaveSameDist};
 ghost use Rattle.road_model.specs.Fraction.{Stretches};
 ghost use Rattle.road_model.specs.Verdicts.{IsVerdict, IsVerdictOf};
-ghost use Rattle.via_search.specs.Candidates.{IsPosed};
+ghost use Rattle.via_search.specs.Candidates.{IsPosed, pair_of};
 ghost use Rattle.via_search.specs.Judging.{StaysCounted};
 ghost use Rattle.via_search.specs.Through.{HasPathThrough, IsLengthThrough, NamesPath};
 ghost use Rattle.plateau_finder.specs.Plateaus.{IsInBoth};
 
 use crate::candidates::{candidate_of, is_optimum};
 use crate::judging::{Judged, judge};
-use canonical_trees::{TreePair, optimum, trees};
+use canonical_trees::{TreeMemory, TreePair, optimum_in, trees_in};
 use forward_star::Star;
 use plateau_finder::plateau_through;
 use road_model::{NoMemory, Optimum, Oracle, Query, Verdict, Vertex};
@@ -78,6 +78,7 @@ fn name_of(pair: &TreePair<'_>, via: Vertex) -> Vertex
 fn verdict_on_path<O: Oracle>(
     alloc: Global,
     star: &Star,
+    pair: &TreePair<'_>,
     oracle: &mut O,
     query: &Query,
     optimum: &Optimum,
@@ -88,13 +89,13 @@ fn verdict_on_path<O: Oracle>(
     requires target { IsVertex star.now.vertices query.now.to }
     requires through { HasPathThrough star.now query.now.from query.now.to via length }
     requires near { Stretches query.now.epsilon length optimum.now.length }
+    requires pair { pair.now ≡ pair_of star.now query.now length }
     requires same { HaveSameDist star.now (O.graph oracle.old) }
     ensures verdict { IfOk result (IsVerdict star.now query.now optimum.now.arcs via) }
     ensures same { O.graph oracle.new ≡ O.graph oracle.old }
     ensures counted { StaysCounted (O.asked oracle.old) (O.asked oracle.new) }
 {
-    let pair = trees(alloc, star, query.from, query.to, Some(length))?;
-    let Some(candidate) = candidate_of(alloc, &pair, via, length)? else {
+    let Some(candidate) = candidate_of(alloc, pair, via, length)? else {
         unreachable!()
     };
     if is_optimum(&candidate, optimum) {
@@ -105,7 +106,7 @@ fn verdict_on_path<O: Oracle>(
         Judged::Shared(sum) => Ok(Verdict::Shared(sum)),
         Judged::Local(failing) => Ok(Verdict::Local(failing)),
         Judged::Stretch(failing) => Ok(Verdict::Stretch(failing)),
-        Judged::Passed(_) => Ok(Verdict::Listed(name_of(&pair, via))),
+        Judged::Passed(_) => Ok(Verdict::Listed(name_of(pair, via))),
     }
 }
 
@@ -113,8 +114,41 @@ fn verdict_on_path<O: Oracle>(
 /// the order of [`Verdict`]'s variants. None exactly where no walk leads from the source to the target.
 ///
 /// It takes a search that stops at the target, and two questions to the oracle. Where the path is within the
-/// stretch bound, it takes also two searches as far as the path is long, 16 bytes a vertex, the tests of this one
-/// path, and memory linear in its arcs. An `Err` leaves the oracle as good as before.
+/// stretch bound, it takes also two searches as far as the path is long, in the memory that is handed in and kept for
+/// the next query, the tests of this one path, and memory linear in its arcs. An `Err` leaves the oracle as good as before.
+pub fn verdict_in<O: Oracle>(
+    alloc: Global,
+    memory: &mut TreeMemory,
+    star: &Star,
+    oracle: &mut O,
+    query: &Query,
+    via: Vertex,
+) -> Result<Option<Verdict>, NoMemory>
+    requires source { IsVertex star.now.vertices query.now.from }
+    requires target { IsVertex star.now.vertices query.now.to }
+    requires through { IsVertex star.now.vertices via }
+    requires same { HaveSameDist star.now (O.graph oracle.old) }
+    ensures verdict { IfOk result (IsVerdictOf star.now query.now via) }
+    ensures same { O.graph oracle.new ≡ O.graph oracle.old }
+    ensures counted { StaysCounted (O.asked oracle.old) (O.asked oracle.new) }
+{
+    let _limits = star.graph();
+    let Some(optimum) = optimum_in(alloc, memory, star, query.from, query.to)? else {
+        return Ok(None);
+    };
+    let Some(length) = length_through(star, oracle, query, via)? else {
+        return Ok(Some(Verdict::Unreached));
+    };
+    if !query.epsilon.stretches(length, optimum.length) {
+        return Ok(Some(Verdict::Long(length)));
+    }
+    let pair = trees_in(alloc, memory, star, query.from, query.to, Some(length))?;
+    let found = verdict_on_path(alloc, star, &pair, oracle, query, &optimum, via, length)?;
+    *memory = pair.into_memory();
+    Ok(Some(found))
+}
+
+/// The same in memory of its own, which is laid out for this query alone.
 pub fn verdict<O: Oracle>(
     alloc: Global,
     star: &Star,
@@ -130,16 +164,7 @@ pub fn verdict<O: Oracle>(
     ensures same { O.graph oracle.new ≡ O.graph oracle.old }
     ensures counted { StaysCounted (O.asked oracle.old) (O.asked oracle.new) }
 {
-    let _limits = star.graph();
-    let Some(optimum) = optimum(alloc, star, query.from, query.to)? else {
-        return Ok(None);
-    };
-    let Some(length) = length_through(star, oracle, query, via)? else {
-        return Ok(Some(Verdict::Unreached));
-    };
-    if !query.epsilon.stretches(length, optimum.length) {
-        return Ok(Some(Verdict::Long(length)));
-    }
-    let found = verdict_on_path(alloc, star, oracle, query, &optimum, via, length)?;
-    Ok(Some(found))
+    let mut memory = TreeMemory::new(alloc);
+    let verdict = verdict_in(alloc, &mut memory, star, oracle, query, via)?;
+    Ok(verdict)
 }

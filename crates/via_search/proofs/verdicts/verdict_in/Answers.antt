@@ -1,7 +1,7 @@
 use Rattle.via_search.proofs.Posed.{posed_of}
 use Rattle.via_search.proofs.Judgements.{long_of_length, not_stretched}
 use Rattle.via_search.proofs.PathsThrough.{through_some}
-use Rattle.via_search.proofs.verdicts.verdict.Goals as goal
+use Rattle.via_search.proofs.verdicts.verdict_in.Goals as goal
 
 pub returns-then-not-stretches-clause-verdict : goal.returns-then-not-stretches-clause-verdict
 returns-then-not-stretches-clause-verdict g c =
