@@ -10,7 +10,7 @@ ghost use Rattle.line_front.specs.Replies.{HasItems};
 ghost use Rattle.route_server.specs.Serving.{limits_of, opening};
 ghost use Rattle.route_server.specs.Desks.{IsDesk, IsDeskRequest, IsReadersLine, IsSaid};
 
-use canonical_trees::optimum;
+use canonical_trees::{TreeMemory, optimum_in};
 use desk_core::{Asked, Limits, page_reply, tested};
 use forward_star::Star;
 use line_front::Parsed;
@@ -18,7 +18,7 @@ use road_model::{
     ErrorKind, Network, NoMemory, Optimum, Oracle, Plan, Reply, Request, Verdict, Vertex,
 };
 use std::alloc::Global;
-use via_search::{plan, verdict};
+use via_search::{plan_in, verdict_in};
 
 /// The number of the one version.
 const NUMBER: u64 = 1;
@@ -89,6 +89,7 @@ fn refused(kind: ErrorKind) -> Answer
 /// Answers what was asked.
 fn answered<O: Oracle>(
     alloc: Global,
+    memory: &mut TreeMemory,
     star: &Star,
     oracle: &mut O,
     asked: &Asked,
@@ -103,7 +104,7 @@ fn answered<O: Oracle>(
 {
     match asked {
         Asked::Best { from, to } => Ok(Answer {
-            reply: best_reply(optimum(alloc, star, *from, *to)?),
+            reply: best_reply(optimum_in(alloc, memory, star, *from, *to)?),
             shown: None,
         }),
         Asked::Page {
@@ -112,14 +113,14 @@ fn answered<O: Oracle>(
             size,
             offset,
         } => {
-            let plan = plan(alloc, star, oracle, query)?;
+            let plan = plan_in(alloc, memory, star, oracle, query)?;
             Ok(Answer {
                 reply: page_reply(*number, query, *size, *offset, &plan),
                 shown: Some(plan),
             })
         }
         Asked::Why { query, via } => Ok(Answer {
-            reply: why_reply(*via, verdict(alloc, star, oracle, query, *via)?),
+            reply: why_reply(*via, verdict_in(alloc, memory, star, oracle, query, *via)?),
             shown: None,
         }),
         Asked::Version => Ok(Answer {
@@ -132,8 +133,14 @@ fn answered<O: Oracle>(
 
 /// Replies to a request: its refusal, or its answer, or that memory was refused.
 ///
-/// A page costs a plan, since none is kept.
-pub fn reply_to<O: Oracle>(alloc: Global, star: &Star, oracle: &mut O, request: &Request) -> Answer
+/// A page costs a plan, since none is kept. Searches are made in the memory.
+pub fn reply_to<O: Oracle>(
+    alloc: Global,
+    memory: &mut TreeMemory,
+    star: &Star,
+    oracle: &mut O,
+    request: &Request,
+) -> Answer
     requires desk { IsDeskRequest request.now }
     requires same { HaveSameDist star.now (O.graph oracle.old) }
     ensures reply { IsStep star.now opening request.now result.reply result.shown opening }
@@ -141,7 +148,7 @@ pub fn reply_to<O: Oracle>(alloc: Global, star: &Star, oracle: &mut O, request: 
     ensures same { O.graph oracle.new ≡ O.graph oracle.old }
 {
     match tested(&limits(star), request) {
-        Ok(asked) => match answered(alloc, star, oracle, &asked) {
+        Ok(asked) => match answered(alloc, memory, star, oracle, &asked) {
             Ok(answer) => answer,
             Err(_) => refused(ErrorKind::Memory),
         },
@@ -150,7 +157,13 @@ pub fn reply_to<O: Oracle>(alloc: Global, star: &Star, oracle: &mut O, request: 
 }
 
 /// What is said to a line.
-pub fn say<O: Oracle>(alloc: Global, star: &Star, oracle: &mut O, asked: &Parsed) -> Said
+pub fn say<O: Oracle>(
+    alloc: Global,
+    memory: &mut TreeMemory,
+    star: &Star,
+    oracle: &mut O,
+    asked: &Parsed,
+) -> Said
     requires reader { IsReadersLine asked.now }
     requires same { HaveSameDist star.now (O.graph oracle.old) }
     ensures said { IsSaid star.now opening asked.now result opening }
@@ -159,7 +172,7 @@ pub fn say<O: Oracle>(alloc: Global, star: &Star, oracle: &mut O, asked: &Parsed
     match asked {
         Parsed::Empty => Said::Nothing,
         Parsed::Request(Request::Quit) => Said::Quit,
-        Parsed::Request(request) => Said::Answered(reply_to(alloc, star, oracle, request)),
+        Parsed::Request(request) => Said::Answered(reply_to(alloc, memory, star, oracle, request)),
         Parsed::Error(kind) => Said::Answered(refused(*kind)),
     }
 }

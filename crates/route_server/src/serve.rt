@@ -15,6 +15,7 @@ use crate::answering::{Answer, Said, say};
 use crate::gathered::Gathered;
 use crate::input::{NextLine, next_line};
 use crate::status::Status;
+use canonical_trees::TreeMemory;
 use forward_star::Star;
 use line_front::{MAX_LINE, Parsed, write_reply};
 use road_io::{Put, Sink, Source};
@@ -58,6 +59,7 @@ fn send<K: Sink>(answer: &Answer, gathered: &mut Gathered, output: &mut K) -> Se
 /// Answers one line.
 fn serve_one<O: Oracle, K: Sink>(
     alloc: Global,
+    memory: &mut TreeMemory,
     star: &Star,
     oracle: &mut O,
     asked: &Parsed,
@@ -74,7 +76,7 @@ fn serve_one<O: Oracle, K: Sink>(
     ensures quiet { result ≢ Served.WriteFault → K.faults output.new ≡ K.faults output.old }
     ensures unquit { result ≡ Served.Written → is_quit asked.now ≡ false }
 {
-    match say(alloc, star, oracle, asked) {
+    match say(alloc, memory, star, oracle, asked) {
         Said::Nothing => Served::Written,
         Said::Quit => Served::Quit,
         Said::Answered(answer) => send(&answer, gathered, output),
@@ -83,7 +85,7 @@ fn serve_one<O: Oracle, K: Sink>(
 
 /// Answers the lines of the input until one ends the run, or the input ends, or a call of the outside fails.
 ///
-/// It keeps 128 KB for lines, 8 bytes a vertex for distances, and the longest reply.
+/// It keeps 128 KB for lines, 24 bytes a vertex for searches, and the longest reply.
 pub fn serve<S: Source, K: Sink>(
     alloc: Global,
     star: &Star,
@@ -113,10 +115,19 @@ pub fn serve<S: Source, K: Sink>(
         return Status::NoMemory;
     };
     let mut gathered = Gathered::new(alloc);
+    let mut memory = TreeMemory::new(alloc);
     'lines: loop {
         match next_line(&mut reader, input) {
             NextLine::More(asked) => {
-                match serve_one(alloc, star, &mut oracle, &asked, &mut gathered, output) {
+                match serve_one(
+                    alloc,
+                    &mut memory,
+                    star,
+                    &mut oracle,
+                    &asked,
+                    &mut gathered,
+                    output,
+                ) {
                     Served::Written => {}
                     Served::Quit => return Status::Done,
                     Served::WriteFault => return Status::WriteFault,
@@ -124,7 +135,15 @@ pub fn serve<S: Source, K: Sink>(
                 }
             }
             NextLine::Last(asked) => {
-                match serve_one(alloc, star, &mut oracle, &asked, &mut gathered, output) {
+                match serve_one(
+                    alloc,
+                    &mut memory,
+                    star,
+                    &mut oracle,
+                    &asked,
+                    &mut gathered,
+                    output,
+                ) {
                     Served::Written => return Status::Done,
                     Served::Quit => return Status::Done,
                     Served::WriteFault => return Status::WriteFault,

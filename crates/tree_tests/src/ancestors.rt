@@ -79,7 +79,12 @@ fn jump_over(table: &[Option<Ancestor>], parent: Vertex) -> Vertex
 }
 
 /// The entry of a vertex, by those of the vertices on its way.
-fn entry_of(pair: &TreePair<'_>, side: Side, table: &[Option<Ancestor>], v: Vertex) -> Option<Ancestor>
+fn entry_of(
+    pair: &TreePair<'_>,
+    side: Side,
+    table: &[Option<Ancestor>],
+    v: Vertex,
+) -> Option<Ancestor>
     requires { AreAncestors pair.now side table.now }
     ensures { IsEntry pair.now side v result }
 {
