@@ -1,5 +1,5 @@
 -- The path of a plateau within the stretch bound of a query: whether it is the optimum, and its route.
-use Rattle.std.proofs.Common.{◌≡◌, ◌≢◌, ℕ, ◌+◌, ◌*◌, ◌-◌, ◌<◌, ◌≤◌, List, [], ◌∷◌, ◌++◌, length, Option, Some, None, refl, sym, ap, ◌∙◌, subst, arith, ⊎_elim}
+use Rattle.std.proofs.Common.{◌≡◌, ◌≢◌, ℕ, ◌+◌, ◌*◌, ◌-◌, ◌<◌, ◌≤◌, List, [], ◌∷◌, ◌++◌, length, Option, Some, None, Bool, true, false, refl, sym, ap, ◌∙◌, subst, arith, ⊎_elim}
 use Rattle.std.proofs.lemmas.List.{append-nil}
 use Rattle.std.proofs.lemmas.Bool.{cases_lt, cases_eq}
 use Rattle.road_model.specs.declared.answer.Optimum.{Optimum}
@@ -26,10 +26,8 @@ use Rattle.tree_tests.specs.Never.{IsNever}
 use Rattle.tree_tests.proofs.UpSteps.{carried-le}
 use Rattle.tree_tests.proofs.Repeats.{carries_too_much, carried_of_admissible, bounded_is_distinct, shortest_is_distinct, shared_is_carried}
 use Rattle.via_search.specs.declared.candidates.Candidate.{Candidate}
-use Rattle.via_search.specs.declared.judging.Tried.{Tried}
-use Rattle.via_search.specs.declared.judging.Tried.TheVariants.{Local, Stretch, Passed}
 use Rattle.via_search.specs.Candidates.{IsPosed, IsCandidate, FindsCandidate, IsBoundOf, pair_of}
-use Rattle.via_search.specs.Judging.{IsTried}
+use Rattle.via_search.specs.Judging.{IsPassing}
 use Rattle.via_search.specs.Listing.{IsNamedRoute, IsRouteOf}
 
 -- a ratio that some length is beyond has a denominator above 0
@@ -104,15 +102,13 @@ shares_too_much g q o n sum c sh posed bound same sums above p is alternative =
     carries_too_much g q o.arcs p sum posed.limits.is_graph (has_denominator q o.length n bound) posed.best.0 (via_walk g q.from q.to c.least p is.least) (here p is.least) over alternative.admissible
 
 -- a test refuses it
-tried_refused : (g : Graph) (q : Query) (o p : List ℕ) (t : Tried) → (t ≡ Passed → ⊥) → IsTried g q o p t → IsAdmissible g q o p → ⊥
-tried_refused g q o p (Local pair) not h a = a.optimal pair.first pair.last pair.distance h.fails
-tried_refused g q o p (Stretch pair) not h a = a.bounded pair.first pair.last pair.distance h.1.fails
-tried_refused g q o p Passed not h a = not refl
+not_passing : (g : Graph) (q : Query) (o p : List ℕ) (b : Bool) → b ≡ false → IsPassing g q o p b → IsAdmissible g q o p → ⊥
+not_passing g q o p b is h a = subst (λ (x : Bool). IsPassing g q o p x) is h a.optimal a.bounded
 
-pub fails_a_test : (g : Graph) (q : Query) (o : Optimum) (n : ℕ) (c : Plateau) (x : Candidate) (t : Tried) → x.via ≡ c.least → IsCandidate g q.from q.to x → (t ≡ Passed → ⊥) → IsTried g q o.arcs x.arcs t → IsRouteOf g q o.arcs (pair_of g q n) c None
-fails_a_test g q o n c x t same own not h p is alternative =
+pub fails_a_test : (g : Graph) (q : Query) (o : Optimum) (n : ℕ) (c : Plateau) (x : Candidate) (b : Bool) → x.via ≡ c.least → IsCandidate g q.from q.to x → b ≡ false → IsPassing g q o.arcs x.arcs b → IsRouteOf g q o.arcs (pair_of g q n) c None
+fails_a_test g q o n c x b same own failed h p is alternative =
     let path : p ≡ x.arcs = IsVia-unique g q.from q.to c.least p x.arcs is.least (subst (λ (v : ℕ). IsVia g q.from q.to v x.arcs) same own.through) in
-    tried_refused g q o.arcs x.arcs t not h (subst (λ (l : List ℕ). IsAdmissible g q o.arcs l) path alternative.admissible)
+    not_passing g q o.arcs x.arcs b failed h (subst (λ (l : List ℕ). IsAdmissible g q o.arcs l) path alternative.admissible)
 
 pub has_candidate : (g : Graph) (q : Query) (n : ℕ) (c : Plateau) (found : Option Candidate) → IsListed (pair_of g q n) (Some n) c → FindsCandidate g q.from q.to n c.least found → found ≡ None → ⊥
 has_candidate g q n c found h finds none =
@@ -169,10 +165,10 @@ sum_here g q o n sum c x sh same sums h =
 pub sum_fits : (g : Graph) (q : Query) (o : Optimum) (n sum : ℕ) (c : Plateau) (x : Candidate) → Passes g q o n c x → sum ≡ carried g o.arcs x.arcs → sum ≤ x.length
 sum_fits g q o n sum c x h is = omega (arith, carried-le g o.arcs x.arcs, h.own.is_length)
 
-pub tried_passed : (g : Graph) (q : Query) (o p : List ℕ) (t : Tried) → t ≡ Passed → IsTried g q o p t → IsTried g q o p Passed
-tried_passed g q o p t is h = subst (λ (x : Tried). IsTried g q o p x) is h
+pub none_fails : (g : Graph) (q : Query) (o p : List ℕ) (b : Bool) → b ≡ true → IsPassing g q o p b → IsPassing g q o p true
+none_fails g q o p b is h = subst (λ (x : Bool). IsPassing g q o p x) is h
 
-pub route_made : (g : Graph) (q : Query) (o : Optimum) (n sum : ℕ) (c : Plateau) (x : Candidate) (r : Route) → IsPosed g q o → IsBoundOf q o.length n → Passes g q o n c x → IsTried g q o.arcs x.arcs Passed → sum ≡ carried g o.arcs x.arcs → Allows q.gamma sum o.length
+pub route_made : (g : Graph) (q : Query) (o : Optimum) (n sum : ℕ) (c : Plateau) (x : Candidate) (r : Route) → IsPosed g q o → IsBoundOf q o.length n → Passes g q o n c x → IsPassing g q o.arcs x.arcs true → sum ≡ carried g o.arcs x.arcs → Allows q.gamma sum o.length
     → r.via ≡ c.least → r.length ≡ x.length → r.shared ≡ sum → r.plateau ≡ c.length → r.rank ≡ rank_of x.length sum c.length → r.arcs ≡ x.arcs → IsNamedRoute g q o.arcs (pair_of g q n) c r
 route_made g q o n sum c x r posed bound h tests is part via long common plateau ranked path =
     let walk = via_walk g q.from q.to x.via x.arcs h.own.through in

@@ -1,5 +1,5 @@
 -- The trail of a candidate, as the tests take it, and what they say told of the star's own graph.
-use Rattle.std.proofs.Common.{◌≡◌, ℕ, ◌+◌, ◌<◌, ◌≤◌, ◌^◌, List, ◌++◌, length, get_or, Option, Some, None, Contains, sym, ap, ◌∙◌, subst, arith, length-append}
+use Rattle.std.proofs.Common.{◌≡◌, ℕ, ◌+◌, ◌<◌, ◌≤◌, ◌^◌, List, ◌++◌, length, get_or, Option, Some, None, Bool, true, false, Contains, sym, ap, ◌∙◌, subst, arith, length-append}
 use Rattle.road_model.specs.declared.answer.Optimum.{Optimum}
 use Rattle.road_model.specs.declared.answer.Pair.{Pair}
 use Rattle.road_model.specs.declared.answer.Query.{Query}
@@ -14,9 +14,10 @@ use Rattle.road_model.specs.ViaWalk.{IsViaWalk, FindsLeast, AsksWithin}
 use Rattle.road_model.specs.Alternatives.{IsVia}
 use Rattle.road_model.proofs.CanonicalWalks.{IsFirst-unique}
 use Rattle.road_model.proofs.Parts.{length-sums, sum_after}
+use Rattle.path_tests.specs.Passing.{HasFailure, TellsPassing}
 use Rattle.via_search.specs.declared.candidates.Candidate.{Candidate}
 use Rattle.via_search.specs.Candidates.{IsPosed, IsCandidate}
-use Rattle.via_search.specs.Judging.{StaysCounted}
+use Rattle.via_search.specs.Judging.{FailsLocalOf, FailsStretchOf, IsPassing, StaysCounted}
 use Rattle.canonical_trees.proofs.ThroughVertex.{via_walk, near_of_via}
 use Rattle.via_search.proofs.FewArcs.{default_of, place_unique, shortest_few}
 
@@ -139,6 +140,36 @@ at_some F r pair h is = subst (λ (x : Option Pair). FindsLeast F x) is h
 
 pub at_none : (F : ℕ → ℕ → ℕ → Type 0) (r : Option Pair) → FindsLeast F r → r ≡ None → NoneFails F
 at_none F r h is = subst (λ (x : Option Pair). FindsLeast F x) is h
+
+-- the same of a test that only tells whether a path passes
+passes_same : (F G : ℕ → ℕ → ℕ → Type 0) (b : Bool) → ((i j d : ℕ) → F i j d → G i j d) → ((i j d : ℕ) → G i j d → F i j d) → TellsPassing F b → TellsPassing G b
+passes_same F G true to from h = (λ i j d g. h i j d (from i j d g))
+passes_same F G false to from h = record { first = h.first; last = h.last; distance = h.distance; fails = to h.first h.last h.distance h.fails }
+
+pub local_passes : (g o : Graph) (f : Fraction) (l m : ℕ) (t u : Trail) (b : Bool) → HaveSameDist g o → l ≡ m → t ≡ u → TellsPassing (FailsLocal o f l t) b → TellsPassing (FailsLocal g f m u) b
+local_passes g o f l m t u b same long is h =
+    subst (λ (n : ℕ). TellsPassing (FailsLocal g f n u) b) long
+    (subst (λ (x : Trail). TellsPassing (FailsLocal g f l x) b) is
+    (passes_same (FailsLocal o f l t) (FailsLocal g f l t) b (λ i j d x. local_back g o f l t i j d same x) (λ i j d x. local_to g o f l t i j d same x) h))
+
+pub stretch_passes : (g o now : Graph) (f : Fraction) (t u : Trail) (b : Bool) → HaveSameDist g o → now ≡ o → t ≡ u → TellsPassing (FailsStretch now f t) b → TellsPassing (FailsStretch g f u) b
+stretch_passes g o now f t u b same kept is h =
+    let here : TellsPassing (FailsStretch o f t) b = subst (λ (x : Graph). TellsPassing (FailsStretch x f t) b) kept h in
+    subst (λ (x : Trail). TellsPassing (FailsStretch g f x) b) is
+    (passes_same (FailsStretch o f t) (FailsStretch g f t) b (λ i j d x. stretch_back g o f t i j d same x) (λ i j d x. stretch_to g o f t i j d same x) here)
+
+pub at_true : (F : ℕ → ℕ → ℕ → Type 0) (b : Bool) → TellsPassing F b → b ≡ true → NoneFails F
+at_true F b h is = subst (λ (x : Bool). TellsPassing F x) is h
+
+pub at_false : (F : ℕ → ℕ → ℕ → Type 0) (b : Bool) → TellsPassing F b → b ≡ false → HasFailure F
+at_false F b h is = subst (λ (x : Bool). TellsPassing F x) is h
+
+pub not_local : (g : Graph) (q : Query) (o p : List ℕ) → HasFailure (FailsLocalOf g q o p) → IsPassing g q o p false
+not_local g q o p h local stretch = local h.first h.last h.distance h.fails
+
+pub passing_of : (g : Graph) (q : Query) (o p : List ℕ) (b : Bool) → NoneFails (FailsLocalOf g q o p) → TellsPassing (FailsStretchOf g q p) b → IsPassing g q o p b
+passing_of g q o p true local h = (local, h)
+passing_of g q o p false local h = (λ a b. b h.first h.last h.distance h.fails)
 
 pub still_counted : (a b n : ℕ) → AsksWithin a b n → StaysCounted a b
 still_counted a b n h = h.counted

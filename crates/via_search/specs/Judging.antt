@@ -2,8 +2,9 @@
 --   IsJudged g q o p j   j is the first test that the path p of the query q fails, where o is the arcs of the
 --                        optimum: its length as a whole, sharing, local optimality, stretch; or p passes all
 --   IsTried g q o p t    the same of the last two tests alone, which ask the oracle
+--   IsPassing g q o p b  b tells whether p passes these two
 --   StaysCounted old new a count of questions hasn't fallen, if it is within the count's type
-use Rattle.std.specs.Prelude.{◌≡◌, ◌<◌, ◌≤◌, ◌^◌, ℕ, List}
+use Rattle.std.specs.Prelude.{◌≡◌, ◌<◌, ◌≤◌, ◌^◌, ℕ, List, Bool, MatchBool}
 use Rattle.road_model.specs.declared.answer.Query.{Query}
 use Rattle.road_model.specs.Graph.{Graph}
 use Rattle.road_model.specs.Walk.{walk_length}
@@ -42,6 +43,12 @@ IsTried g q optimum p (tried.Local pair) = IsLeastFailure (FailsLocalOf g q opti
 IsTried g q optimum p (tried.Stretch pair) =
     NoneFails (FailsLocalOf g q optimum p) × IsLeastFailure (FailsStretchOf g q p) pair.first pair.last pair.distance
 IsTried g q optimum p tried.Passed = NoneFails (FailsLocalOf g q optimum p) × NoneFails (FailsStretchOf g q p)
+
+abbrev pub IsPassing : Graph → Query → List ℕ → List ℕ → Bool → Type 0
+IsPassing g q optimum p passes =
+    MatchBool passes
+    (NoneFails (FailsLocalOf g q optimum p) × NoneFails (FailsStretchOf g q p))
+    (NoneFails (FailsLocalOf g q optimum p) → NoneFails (FailsStretchOf g q p) → ⊥)
 
 abbrev pub StaysCounted : ℕ → ℕ → Type 0
 StaysCounted old new = old < 2 ^ 64 → (old ≤ new) × (new < 2 ^ 64)

@@ -3,13 +3,13 @@
 ghost use Rattle.std.specs.Prelude.{◌≡◌, ◌<◌, ◌^◌, Some, IfOk, length, slice_index, Contains};
 ghost use Rattle.road_model.specs.Dist.{HaveSameDist};
 ghost use Rattle.via_search.specs.Candidates.{IsPosed, IsCandidate};
-ghost use Rattle.via_search.specs.Judging.{IsJudged, IsTried, StaysCounted};
+ghost use Rattle.via_search.specs.Judging.{IsJudged, IsTried, IsPassing, StaysCounted};
 ghost use Rattle.via_search.specs.Asks.{AsksOnce};
 
 use crate::candidates::Candidate;
 use forward_star::Star;
-use local_optimality::local;
-use path_tests::{shared, stretch, within_share};
+use local_optimality::{is_local, local};
+use path_tests::{is_stretch_bounded, shared, stretch, within_share};
 use road_model::{NoMemory, Optimum, Oracle, Pair, Query, Trail};
 use std::alloc::Global;
 
@@ -110,4 +110,32 @@ pub(crate) fn put_to_oracle<O: Oracle>(
         return Ok(Tried::Stretch(pair));
     }
     Ok(Tried::Passed)
+}
+
+/// Whether a path passes the same tests. It asks no more than they do, and looks for no least pair.
+pub(crate) fn passes_oracle<O: Oracle>(
+    alloc: Global,
+    star: &Star,
+    oracle: &mut O,
+    query: &Query,
+    optimum: &Optimum,
+    candidate: &Candidate,
+) -> Result<bool, NoMemory>
+    requires posed { IsPosed star.now query.now optimum.now }
+    requires same { HaveSameDist star.now (O.graph oracle.old) }
+    requires candidate { IsCandidate star.now query.now.from query.now.to candidate.now }
+    ensures passing { IfOk result (IsPassing star.now query.now optimum.now.arcs candidate.now.arcs) }
+    ensures same { O.graph oracle.new ≡ O.graph oracle.old }
+    ensures counted { StaysCounted (O.asked oracle.old) (O.asked oracle.new) }
+    ensures asks { AsksOnce star.now query.now.from query.now.to candidate.now.arcs candidate.now.via
+        (O.asked oracle.old) (O.asked oracle.new) }
+{
+    let trail = Trail::of(alloc, star, query.from, candidate.arcs.as_slice())?;
+    let via_at = place_of(&trail, candidate.near);
+    let optimal = is_local(oracle, &trail, via_at, &query.alpha, optimum.length)?;
+    if !optimal {
+        return Ok(false);
+    }
+    let bounded = is_stretch_bounded(oracle, &trail, via_at, &query.epsilon)?;
+    Ok(bounded)
 }

@@ -11,7 +11,7 @@ ghost use Rattle.via_search.specs.Asks.{AsksFor, AsksAtMost, AsksForPlan};
 ghost use Rattle.via_search.specs.Listing.{IsRouteOf};
 
 use crate::candidates::candidate_of;
-use crate::judging::{Tried, put_to_oracle};
+use crate::judging::passes_oracle;
 use canonical_trees::{TreeMemory, TreePair, trees_in};
 use forward_star::Star;
 use path_tests::within_share;
@@ -67,9 +67,9 @@ fn route_of<O: Oracle>(
     let Some(candidate) = candidate_of(alloc, pair, plateau.least, bound)? else {
         unreachable!()
     };
-    let Tried::Passed = put_to_oracle(alloc, star, oracle, query, optimum, &candidate)? else {
+    if !passes_oracle(alloc, star, oracle, query, optimum, &candidate)? {
         return Ok(None);
-    };
+    }
     Ok(Some(Route {
         via: plateau.least,
         length: candidate.length,
