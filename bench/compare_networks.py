@@ -3,12 +3,13 @@
 
 python3 bench/compare_networks.py [COUNT] [--vertices LOW HIGH] [--seed SEED]
 
-A network is a grid of random lengths, a grid full of ties, a road-like lattice with faster rows, or a random graph, each with
-one-way and parallel arcs. The definitions are those of plain.py, over distances that are found once for each vertex. It
+A network is a grid of random lengths, a grid full of ties or of equal lengths, a road-like lattice with faster rows, or a random
+graph, each with one-way and parallel arcs; or a path, a star of leaves, or a small clique. The definitions are those of plain.py, over distances that are found once for each vertex. It
 ends with 1 where a byte differs, and leaves that network in bench/out: network.gr and network.requests.
 """
 import argparse
 import heapq
+import itertools
 import random
 import sys
 import time
@@ -51,15 +52,33 @@ def lattice(chance, width, height, length):
     return width * height, arcs
 
 
+def joined(chance, kind, vertices):
+    """Arcs both ways between each vertex and the next, the first and each other, or each two; among few lengths."""
+    least = chance.choice([1, 3])
+    pairs = {
+        "path": [(v, v + 1) for v in range(1, vertices)],
+        "star": [(1, v) for v in range(2, vertices + 1)],
+        "clique": list(itertools.combinations(range(1, vertices + 1), 2)),
+    }
+    arcs = []
+    for u, v in pairs[kind]:
+        arcs += [(u, v, chance.randint(least, 3)), (v, u, chance.randint(least, 3))]
+    return vertices, arcs
+
+
 def network_of(chance, low, high):
     vertices = chance.randint(low, high)
     width = max(2, int(vertices**0.5 * chance.uniform(0.6, 1.6)))
     height = max(2, vertices // width)
-    kind = chance.choice(["grid", "ties", "road", "random"])
+    kind = chance.choice(["grid", "ties", "equal", "road", "random", "path", "star", "clique"])
     if kind == "grid":
         return kind, Network(*lattice(chance, width, height, lambda row, column: chance.randint(1, 1000)))
     if kind == "ties":
         return kind, Network(*lattice(chance, width, height, lambda row, column: chance.randint(1, 2)))
+    if kind == "equal":
+        return kind, Network(*lattice(chance, width, height, lambda row, column: 7))
+    if kind in ("path", "star", "clique"):
+        return kind, Network(*joined(chance, kind, 40 if kind == "clique" else vertices))
     if kind == "road":
 
         def length(row, column):

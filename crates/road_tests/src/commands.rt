@@ -78,7 +78,7 @@ fn the_first_fault_of_a_file_is_named(rt: HostRuntime) -> Result<(), Fail> {
 
 #[test]
 fn graphs_are_printed_and_grids_made_and_surveyed(rt: HostRuntime) -> Result<(), Fail> {
-    let rows: [(&str, &[u8]); 6] = [
+    let rows: [(&str, &[u8]); 7] = [
         (
             "print a.gr",
             b"p sp 6 6\na 1 2 10\na 2 6 10\na 1 3 11\na 3 4 6\na 4 6 5\na 2 3 1\n",
@@ -93,6 +93,10 @@ fn graphs_are_printed_and_grids_made_and_surveyed(rt: HostRuntime) -> Result<(),
         (
             "survey 7 6 6 5",
             b"graph vertices 36 arcs 120\nqueries 5 none 0\nroutes 6 length 9217\nend\n",
+        ),
+        (
+            "survey 7 60 60 20",
+            b"graph vertices 3600 arcs 14160\nqueries 20 none 0\nroutes 93 length 1371761\nend\n",
         ),
     ];
     for (words, output) in rows {
