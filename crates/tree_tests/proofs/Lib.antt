@@ -1,6 +1,6 @@
 pub mod UpSteps
 pub mod Climbs
-pub mod Tables
+pub mod Halves
 pub mod Stamps
 pub mod Repeats
 pub mod OnPaths

@@ -1,10 +1,10 @@
 -- What entries tell at a stamp.
-use Rattle.std.proofs.Common.{◌≡◌, ◌<◌, ◌≤◌, ◌-◌, ◌==◌, ℕ, zero, suc, List, [], ◌∷◌, ◌++◌, map, take, replicate, set, All, Option, Some, None, refl, sym, ap, ◌∙◌, subst, arith}
+use Rattle.std.proofs.Common.{◌≡◌, ◌<◌, ◌==◌, ℕ, zero, suc, List, [], ◌∷◌, ◌++◌, map, take, replicate, set, Option, Some, None, refl, sym, ap, ◌∙◌, subst, arith}
 use Rattle.std.proofs.lemmas.Bool.{cond-true, cond-false, eq-eqb, ne_eqb}
 use Rattle.std.proofs.lemmas.List.{map-set}
 use Rattle.std.proofs.lemmas.List.Elements.{All-append, All-replicate, All-take}
 use Rattle.tree_tests.specs.declared.table.Stamped.{Stamped}
-use Rattle.tree_tests.specs.Tables.{told, AreStamped, AreOlder, IsEmpty}
+use Rattle.tree_tests.specs.Tables.{told, AreOlder, IsEmpty}
 
 module _ {X : Type 0} where
   none_told : (now : ℕ) (e : Stamped X) → e.stamp < now → told now e ≡ None

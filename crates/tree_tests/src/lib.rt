@@ -8,5 +8,5 @@ mod sides;
 mod sums;
 mod table;
 
-pub use refusals::Refusals;
-pub use sums::SharedSums;
+pub use refusals::{Refusals, WayTables};
+pub use sums::{SharedSums, SumTables};

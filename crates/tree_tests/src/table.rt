@@ -80,6 +80,13 @@ impl<T: Copy> Table<T> {
         Ok(())
     }
 
+    /// How many places it has.
+    pub(crate) fn len(&self) -> usize
+        ensures { result ≡ length self.now }
+    {
+        self.entries.len()
+    }
+
     /// The value at a place, if it has one.
     #[inline]
     pub(crate) fn get(&self, place: usize) -> Option<T>

@@ -1,4 +1,4 @@
-use Rattle.std.proofs.Common.{◌≡◌, List, map, sym, subst}
+use Rattle.std.proofs.Common.{map, sym, subst}
 use Rattle.tree_tests.specs.Tables.{told, IsEmpty}
 use Rattle.tree_tests.proofs.Stamps.{older_told, older_more}
 use Rattle.tree_tests.proofs.table.Table.empty.Goals as goal

@@ -1,4 +1,4 @@
-use Rattle.std.proofs.Common.{◌≡◌, ◌∙◌, ap, Some, set}
+use Rattle.std.proofs.Common.{◌∙◌, ap, Some, set}
 use Rattle.tree_tests.proofs.Stamps.{told_set}
 use Rattle.tree_tests.proofs.table.Table.set.Goals as goal
 
