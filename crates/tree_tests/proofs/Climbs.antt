@@ -1,11 +1,11 @@
 -- The sum of a vertex, by a climb towards the root.
-use Rattle.std.proofs.Common.{◌≡◌, ◌≢◌, ℕ, ◌+◌, ◌-◌, ◌<◌, ◌≤◌, ◌==◌, Bool, true, false, cond, List, [], ◌∷◌, length, get_or, set, All, Result, Ok, Err, Option, Some, None, refl, sym, ap, ◌∙◌, subst, arith, ⊎_elim, get_or-set_other, get_or-set_same}
+use Rattle.std.proofs.Common.{◌≡◌, ◌≢◌, ℕ, ◌+◌, ◌-◌, ◌<◌, ◌≤◌, ◌==◌, true, false, cond, List, length, get_or, Option, Some, None, refl, sym, ap, ◌∙◌, subst, arith, ⊎_elim, get_or-set_other, get_or-set_same}
 use Rattle.std.specs.List.{list_any, slice_index_or, slice_set}
-use Rattle.std.proofs.lemmas.Bool.{cases_lt, cases_eq, cond-true, cond-false, eq-eqb, ne_eqb}
-use Rattle.std.proofs.lemmas.List.{get_or_default}
+use Rattle.std.proofs.lemmas.Bool.{cases_lt, cases_eq, eq-eqb, ne_eqb}
+use Rattle.std.proofs.lemmas.List.{get_or_default, set_past}
 use Rattle.std.proofs.lemmas.List.Folds.{list_any_at, list_any_none}
 use Rattle.road_model.specs.declared.network.Step.{Step}
-use Rattle.road_model.specs.Graph.{Graph, length_at}
+use Rattle.road_model.specs.Graph.{length_at}
 use Rattle.canonical_trees.specs.Trees.{Trees}
 use Rattle.tree_tests.specs.declared.sides.Side.{Side}
 use Rattle.tree_tests.specs.Sums.{weight_on, carried, TreePath, TreeDist, IsInTree, IsUpStep, IsUp, IsSumAt, AreSums}
@@ -78,7 +78,7 @@ climb_root ts side o v at near sum root h =
     }
 
 -- a table that gets one more right sum is right
-pub sums_set : (ts : Trees) (side : Side) (o : List ℕ) (sums : List (Option ℕ)) (v k : ℕ) → v < length sums → AreSums ts side o sums → IsSumAt ts side o v k → AreSums ts side o (slice_set sums v (Some k))
+sums_set : (ts : Trees) (side : Side) (o : List ℕ) (sums : List (Option ℕ)) (v k : ℕ) → v < length sums → AreSums ts side o sums → IsSumAt ts side o v k → AreSums ts side o (slice_set sums v (Some k))
 sums_set ts side o sums v k inside h own w j is =
     ⊎_elim
     (λ (same : w ≡ v).
@@ -128,7 +128,10 @@ on_missing o i a below above = list_any_none (λ b. b == a) o (λ k d lt. ne_eqb
     (λ (ge : i ≤ k). omega (arith, above k ge lt, get_or_default o k d 0 lt, same))
     (cases_lt k i)))
 
-pub sums_put : (ts : Trees) (side : Side) (o : List ℕ) (old new : List (Option ℕ)) (v place k : ℕ) → place ≡ v → place < length old → new ≡ slice_set old place (Some k) → AreSums ts side o old → IsSumAt ts side o v k → AreSums ts side o new
-sums_put ts side o old new v place k here inside is h own =
+pub sums_put : (ts : Trees) (side : Side) (o : List ℕ) (old new : List (Option ℕ)) (v place k : ℕ) → place ≡ v → new ≡ slice_set old place (Some k) → AreSums ts side o old → IsSumAt ts side o v k → AreSums ts side o new
+sums_put ts side o old new v place k here is h own =
     subst (λ (l : List (Option ℕ)). AreSums ts side o l) (sym is)
-    (sums_set ts side o old place k inside h (subst (λ (x : ℕ). IsSumAt ts side o x k) (sym here) own))
+    (⊎_elim
+    (λ (inside : place < length old). sums_set ts side o old place k inside h (subst (λ (x : ℕ). IsSumAt ts side o x k) (sym here) own))
+    (λ (past : length old ≤ place). subst (λ (l : List (Option ℕ)). AreSums ts side o l) (sym (set_past old place (Some k) past)) h)
+    (cases_lt place (length old)))

@@ -1,6 +1,7 @@
 pub mod UpSteps
 pub mod Climbs
-pub mod Tables
+pub mod Halves
+pub mod Stamps
 pub mod Repeats
 pub mod OnPaths
 pub mod Pieces

@@ -1,5 +1,5 @@
 -- Vertices on the way of others to a root.
-use Rattle.std.proofs.Common.{◌≡◌, ℕ, ◌<◌, List, [], ◌∷◌, ◌++◌, Option, Some, None, refl, sym, ap, ◌∙◌, subst, append_assoc, slice_set, length, arith, ⊎_elim}
+use Rattle.std.proofs.Common.{◌≡◌, ℕ, List, [], ◌∷◌, ◌++◌, Option, Some, None, refl, sym, ap, ◌∙◌, subst, append_assoc}
 use Rattle.std.specs.List.{slice_index_or}
 use Rattle.std.proofs.lemmas.List.{append-nil}
 use Rattle.road_model.specs.declared.network.Step.{Step}
@@ -12,7 +12,8 @@ use Rattle.tree_tests.specs.declared.sides.Side.TheVariants.{Source, Target}
 use Rattle.tree_tests.specs.declared.ancestors.Ancestor.{Ancestor}
 use Rattle.tree_tests.specs.declared.ancestors.Two.{Two}
 use Rattle.tree_tests.specs.Sums.{TreePath, TreeDist}
-use Rattle.tree_tests.specs.Ancestors.{Joins, IsOn, IsParent, IsAncestor, IsEntry, AreAncestors, IsLifted, AreLifted, AreHigher, IsMet, IsAhead, HasNoEntry, opposite}
+use Rattle.tree_tests.specs.Ancestors.{IsOn, IsParent, IsAncestor, IsEntry, AreAncestors, IsLifted, AreLifted, AreHigher, IsMet, IsAhead}
+use Rattle.tree_tests.specs.Tables.{IsEmpty}
 use Rattle.tree_tests.proofs.UpSteps.{TreePath-unique}
 
 pub on_from : (ts : Trees) (v : ℕ) (o : Option Step) (x : Step) → IsFromStep ts.graph ts.radius ts.source v o → o ≡ Some x → IsOn ts Source x.head v
@@ -88,7 +89,7 @@ met_some ts side w x o y h is = subst (λ (z : Option ℕ). IsMet ts side w x z)
 pub ahead_some : (ts : Trees) (side : Side) (x : ℕ) (o : Option ℕ) (y : ℕ) → IsAhead ts side x o → o ≡ Some y → IsLifted ts side x y
 ahead_some ts side x o y h is = subst (λ (z : Option ℕ). IsAhead ts side x z) is h
 
-pub none_known : (ts : Trees) (side : Side) (es : List (Option Ancestor)) → HasNoEntry es → AreAncestors ts side es
+pub none_known : (ts : Trees) (side : Side) (es : List (Option Ancestor)) → IsEmpty es → AreAncestors ts side es
 none_known ts side es none v a is = absurd (let e : None ≡ Some a = sym (none v) ∙ is in cc)
 
 -- a vertex through which a path leads lies on its own ways

@@ -1,5 +1,5 @@
 -- A piece of a path whose ends are nearer to each other than it is long.
-use Rattle.std.proofs.Common.{◌≡◌, ◌≢◌, ℕ, ◌+◌, ◌-◌, ◌*◌, ◌<◌, ◌≤◌, ◌⊎◌, List, [], ◌∷◌, ◌++◌, length, Option, Some, Bool, false, refl, sym, ap, ◌∙◌, subst, append_assoc, arith, inl, inr, ⊎_elim}
+use Rattle.std.proofs.Common.{◌≡◌, ◌≢◌, ℕ, ◌+◌, ◌-◌, ◌*◌, ◌<◌, ◌≤◌, ◌⊎◌, List, [], ◌∷◌, ◌++◌, length, Some, Bool, false, sym, ap, ◌∙◌, subst, append_assoc, arith, inl, ⊎_elim}
 use Rattle.std.specs.Prelude.{◌↔◌, IsTrue}
 use Rattle.std.proofs.lemmas.Bool.{cases_lt, iff_false}
 use Rattle.std.proofs.lemmas.List.{length-append}
@@ -7,12 +7,10 @@ use Rattle.road_model.specs.declared.answer.Query.{Query}
 use Rattle.road_model.specs.Graph.{Graph}
 use Rattle.road_model.specs.Walk.{IsWalk, walk_length}
 use Rattle.road_model.specs.Dist.{IsDist, IsShortest}
-use Rattle.road_model.specs.Canonical.{IsFirst, IsLast}
 use Rattle.road_model.specs.Fraction.{Allows, Stretches, Exceeds}
 use Rattle.road_model.specs.Places.{trail_of, vertex_at, between, IsDistAt}
-use Rattle.road_model.specs.Tests.{FailsLocal, FailsStretch}
-use Rattle.road_model.specs.Alternatives.{IsVia, IsAdmissible}
-use Rattle.road_model.proofs.Walks.{IsWalk-append, IsWalk-start, IsWalk-end, walk_length-append, Cut, cut}
+use Rattle.road_model.specs.Alternatives.{IsAdmissible}
+use Rattle.road_model.proofs.Walks.{IsWalk-append, IsWalk-start, walk_length-append, Cut, cut}
 use Rattle.road_model.proofs.Dists.{IsDist-same, IsDist-itself, dist_of_shortest, front_of_shortest, back_of_shortest}
 use Rattle.road_model.proofs.Parts.{between_pieces, place_pieces, place_after, length-places}
 use Rattle.canonical_trees.specs.Trees.{Trees}

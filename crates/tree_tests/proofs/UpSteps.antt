@@ -1,7 +1,7 @@
 -- One step towards the root of a tree, whichever tree it is.
-use Rattle.std.proofs.Common.{◌≡◌, ℕ, ◌+◌, ◌≤◌, ◌⊎◌, ◌==◌, Bool, true, false, cond, List, [], ◌∷◌, ◌++◌, Option, Some, None, refl, sym, ap, ◌∙◌, subst, arith, ⊎_elim}
+use Rattle.std.proofs.Common.{◌≡◌, ℕ, ◌+◌, ◌≤◌, ◌==◌, Bool, true, false, cond, List, [], ◌∷◌, ◌++◌, Option, Some, None, refl, sym, ap, ◌∙◌, subst, arith, ⊎_elim}
 use Rattle.std.specs.List.{list_any, sum_by}
-use Rattle.std.proofs.lemmas.List.Sums.{sum_by-cons, sum_by-append, sum_by_push, sum_by-le-sum_by}
+use Rattle.std.proofs.lemmas.List.Sums.{sum_by-cons, sum_by_push, sum_by-le-sum_by}
 use Rattle.road_model.specs.declared.network.Step.{Step}
 use Rattle.road_model.specs.Graph.{Graph, IsGraph, length_at, row_length}
 use Rattle.road_model.specs.File.{IsWithinLimits}
@@ -10,7 +10,6 @@ use Rattle.road_model.specs.Canonical.{IsFirst, IsLast}
 use Rattle.road_model.proofs.Walks.{IsArc-at, walk_length-append}
 use Rattle.road_model.proofs.Dists.{IsDist-same, dist_of_shortest}
 use Rattle.road_model.proofs.CanonicalWalks.{IsFirst-unique, IsLast-unique}
-use Rattle.tree_search.specs.Ball.{IsWithin}
 use Rattle.canonical_trees.specs.Trees.{Trees, IsInside, IsOutside, IsLastStep, IsFirstStep, IsFromStep, IsToStep}
 use Rattle.canonical_trees.proofs.Canonical.{IsLast-nil}
 use Rattle.canonical_trees.proofs.Balls.{apart}

@@ -7,7 +7,6 @@
 --   IsAncestor ts side v a   both vertices of the entry lie on it
 --   IsEntry ts side v o   Some: such an entry; None says nothing
 --   AreAncestors ts side es  each entry that is there is of its vertex
---   HasNoEntry es         none is there
 --   AreWays ts from to    the entries of both sides
 --   IsLifted ts side a b  whatever vertex a lies on the path of, b does too
 --   AreLifted             the same of two at once
@@ -70,9 +69,6 @@ IsMet ts side w x (Some y) = IsOn ts side y w × IsOn ts side y x
 abbrev pub IsAhead : Trees → Side → ℕ → Option ℕ → Type 0
 IsAhead ts side x None = Unit {0}
 IsAhead ts side x (Some y) = IsLifted ts side x y
-
-abbrev pub HasNoEntry : List (Option Ancestor) → Type 0
-HasNoEntry es = (v : ℕ) → slice_index_or es v None ≡ None
 
 pub record AreWays (ts : Trees) (from to : List (Option Ancestor)) : Type 0 where
   pub from_source : AreAncestors ts Source from

@@ -1,3 +1,4 @@
 pub mod Sums
 pub mod Ancestors
 pub mod Never
+pub mod Tables

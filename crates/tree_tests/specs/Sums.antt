@@ -9,7 +9,6 @@
 --   IsUp ts side v o       Some: such a step; None: v is the root, so its path has no arc
 --   IsSumAt ts side o v k  k is what the path of v carries; it isn't above the distance
 --   AreSums ts side o sums each sum that is there is that of its vertex
---   HasNoSum sums          none is there
 --   AreKept ts o asc from to   the tables of both sides, for the arcs o, which `asc` has in ascending order
 --   Shares                 what a clause sees of the sums of a query: the trees, and the arcs of the optimum
 use Rattle.std.specs.Prelude.{◌≡◌, ◌≤◌, ◌+◌, ℕ, List, [], Option, Some, None, if◌then◌else◌, ◌==◌}
@@ -66,9 +65,6 @@ AreSums ts side o sums = (v k : ℕ) → slice_index_or sums v None ≡ Some k �
 pub record Shares : Type 0 where
   pub trees : Trees
   pub optimum : List ℕ
-
-abbrev pub HasNoSum : List (Option ℕ) → Type 0
-HasNoSum sums = (v : ℕ) → slice_index_or sums v None ≡ None
 
 pub record AreKept (ts : Trees) (o ascending : List ℕ) (from to : List (Option ℕ)) : Type 0 where
   pub same : IsPermutation o ascending

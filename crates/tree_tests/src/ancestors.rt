@@ -8,8 +8,10 @@ ghost use Rattle.tree_tests.specs.declared.sides.Side.{Side as Which};
 ghost use Rattle.tree_tests.specs.Ancestors.{IsParent, IsEntry, AreAncestors, AreHigher, IsAhead, IsLifted, IsMet, IsOn};
 
 use crate::sides::Side;
+use crate::table::{Stamped, Table};
 use canonical_trees::TreePair;
 use road_model::{NoMemory, Vertex};
+use std::mem::size_of;
 
 /// The most steps of one climb: a jump halves what is left of the way, or nearly.
 const MOST_STEPS: u32 = 128;
@@ -22,6 +24,16 @@ pub(crate) struct Ancestor {
     pub(crate) depth: u32,
 }
 
+// An entry of a table takes 16 bytes.
+const _: () = prove!(size_of::<Stamped<Ancestor>>() == 16);
+
+/// What a table has where no entry is.
+pub(crate) const NO_ANCESTOR: Ancestor = Ancestor {
+    parent: Vertex(0),
+    jump: Vertex(0),
+    depth: 0,
+};
+
 /// Two vertices that are to meet.
 #[derive(Clone, Copy, Debug)]
 pub(crate) struct Two {
@@ -30,13 +42,10 @@ pub(crate) struct Two {
 }
 
 /// The entry of a vertex, if it is there.
-pub(crate) fn known(table: &[Option<Ancestor>], v: Vertex) -> Option<Ancestor>
+pub(crate) fn known(table: &Table<Ancestor>, v: Vertex) -> Option<Ancestor>
     ensures { result ≡ slice_index_or table.now v None }
 {
-    match table.get(v.number() as usize) {
-        Some(entry) => *entry,
-        None => None,
-    }
+    table.get(v.number() as usize)
 }
 
 /// The next vertex on the way to the root, where there is one.
@@ -56,7 +65,7 @@ fn parent_of(pair: &TreePair<'_>, side: Side, v: Vertex) -> Option<Vertex>
 }
 
 /// How many arcs lead from a vertex to the root; 0 too where it isn't known.
-fn depth_of(table: &[Option<Ancestor>], v: Vertex) -> u32 {
+fn depth_of(table: &Table<Ancestor>, v: Vertex) -> u32 {
     match known(table, v) {
         Some(entry) => entry.depth,
         None => 0,
@@ -64,7 +73,7 @@ fn depth_of(table: &[Option<Ancestor>], v: Vertex) -> u32 {
 }
 
 /// The vertex that a child of `parent` jumps to: two jumps of one length make one of twice that.
-fn jump_over(table: &[Option<Ancestor>], parent: Vertex) -> Vertex
+fn jump_over(table: &Table<Ancestor>, parent: Vertex) -> Vertex
     ensures { (ts : Trees) (side : Which) → AreAncestors ts side table.now → IsLifted ts side parent result }
 {
     let Some(entry) = known(table, parent) else {
@@ -79,12 +88,7 @@ fn jump_over(table: &[Option<Ancestor>], parent: Vertex) -> Vertex
 }
 
 /// The entry of a vertex, by those of the vertices on its way.
-fn entry_of(
-    pair: &TreePair<'_>,
-    side: Side,
-    table: &[Option<Ancestor>],
-    v: Vertex,
-) -> Option<Ancestor>
+fn entry_of(pair: &TreePair<'_>, side: Side, table: &Table<Ancestor>, v: Vertex) -> Option<Ancestor>
     requires { AreAncestors pair.now side table.now }
     ensures { IsEntry pair.now side v result }
 {
@@ -99,24 +103,21 @@ fn entry_of(
 }
 
 /// Keeps the entry of a vertex.
-fn keep(pair: &TreePair<'_>, side: Side, table: &mut [Option<Ancestor>], v: Vertex)
+fn keep(pair: &TreePair<'_>, side: Side, table: &mut Table<Ancestor>, v: Vertex)
     requires { AreAncestors pair.now side table.old }
     ensures { AreAncestors pair.now side table.new }
 {
     let Some(entry) = entry_of(pair, side, table, v) else {
         return;
     };
-    let place = v.number() as usize;
-    if place < table.len() {
-        table[place] = Some(entry);
-    }
+    table.set(v.number() as usize, entry);
 }
 
 /// Keeps the whole way of a vertex to the root, up to a vertex that has an entry.
 pub(crate) fn fill(
     pair: &TreePair<'_>,
     side: Side,
-    table: &mut [Option<Ancestor>],
+    table: &mut Table<Ancestor>,
     stack: &mut Vec<Vertex>,
     v: Vertex,
 ) -> Result<(), NoMemory>
@@ -142,7 +143,7 @@ pub(crate) fn fill(
 }
 
 /// A vertex farther on: by its jump where that is no nearer to the root than `least` arcs, else the next one.
-fn lifted(table: &[Option<Ancestor>], v: Vertex, least: u32) -> Vertex
+fn lifted(table: &Table<Ancestor>, v: Vertex, least: u32) -> Vertex
     ensures { (ts : Trees) (side : Which) → AreAncestors ts side table.now → IsLifted ts side v result }
 {
     let Some(entry) = known(table, v) else {
@@ -156,7 +157,7 @@ fn lifted(table: &[Option<Ancestor>], v: Vertex, least: u32) -> Vertex
 }
 
 /// Both of one depth: by their jumps where these differ, else the next ones.
-fn both_lifted(table: &[Option<Ancestor>], two: Two) -> Option<Two>
+fn both_lifted(table: &Table<Ancestor>, two: Two) -> Option<Two>
     ensures { (ts : Trees) (side : Which) → AreAncestors ts side table.now → AreHigher ts side two result }
 {
     let Some(first) = known(table, two.first) else {
@@ -178,7 +179,7 @@ fn both_lifted(table: &[Option<Ancestor>], two: Two) -> Option<Two>
 }
 
 /// The farther one, or both, nearer to the root.
-fn higher(table: &[Option<Ancestor>], two: Two) -> Option<Two>
+fn higher(table: &Table<Ancestor>, two: Two) -> Option<Two>
     ensures { (ts : Trees) (side : Which) → AreAncestors ts side table.now → AreHigher ts side two result }
 {
     let first = depth_of(table, two.first);
@@ -200,7 +201,7 @@ fn higher(table: &[Option<Ancestor>], two: Two) -> Option<Two>
 }
 
 /// Where the ways of two vertices to the root meet: the lowest common ancestor, where enough is known.
-pub(crate) fn met(table: &[Option<Ancestor>], w: Vertex, x: Vertex) -> Option<Vertex>
+pub(crate) fn met(table: &Table<Ancestor>, w: Vertex, x: Vertex) -> Option<Vertex>
     ensures { (ts : Trees) (side : Which) → AreAncestors ts side table.now → IsOn ts side w w → IsOn ts side x x →
         IsMet ts side w x result }
 {
@@ -221,7 +222,7 @@ pub(crate) fn met(table: &[Option<Ancestor>], w: Vertex, x: Vertex) -> Option<Ve
 }
 
 /// The vertex so many steps on the way of `x`; none where it ends before.
-pub(crate) fn ahead(table: &[Option<Ancestor>], x: Vertex, steps: u32) -> Option<Vertex>
+pub(crate) fn ahead(table: &Table<Ancestor>, x: Vertex, steps: u32) -> Option<Vertex>
     ensures { (ts : Trees) (side : Which) → AreAncestors ts side table.now → IsAhead ts side x result }
 {
     let mut at = x;

@@ -6,6 +6,7 @@ mod ancestors;
 mod refusals;
 mod sides;
 mod sums;
+mod table;
 
-pub use refusals::Refusals;
-pub use sums::SharedSums;
+pub use refusals::{Refusals, WayTables};
+pub use sums::{SharedSums, SumTables};

@@ -3,11 +3,12 @@
 
 ghost use Rattle.std.specs.Prelude.{◌≡◌, ◌<◌, ◌^◌, IfOk, IfSome, IsTrue, None};
 ghost use Rattle.road_model.specs.Walk.{walk_length};
-ghost use Rattle.tree_tests.specs.Ancestors.{AreAncestors, HasNoEntry, IsOn, opposite};
+ghost use Rattle.tree_tests.specs.Ancestors.{AreAncestors, IsOn, opposite};
 ghost use Rattle.tree_tests.specs.Never.{IsNever};
 
-use crate::ancestors::{Ancestor, ahead, fill, met};
+use crate::ancestors::{Ancestor, NO_ANCESTOR, ahead, fill, met};
 use crate::sides::{Side, label, opposite};
+use crate::table::Table;
 use canonical_trees::TreePair;
 use road_model::{NoMemory, Query, Vertex};
 use std::alloc::Global;
@@ -62,13 +63,32 @@ fn is_detour(
     query.alpha.allows(long, opt_len)
 }
 
+/// The memory of the ways of a query, for one query after another. It tells nothing of the queries before.
+///
+/// It keeps 32 bytes a vertex of the largest graph so far, and 4 bytes an arc of the longest way.
+#[derive(Drop)]
+pub struct WayTables {
+    from: Table<Ancestor>,
+    to: Table<Ancestor>,
+    stack: Vec<Vertex>,
+}
+
+impl WayTables {
+    /// A memory for no graph yet: the first query over a graph lays it out. Takes no memory itself.
+    pub fn new(alloc: Global) -> WayTables {
+        WayTables {
+            from: Table::new(alloc, NO_ANCESTOR),
+            to: Table::new(alloc, NO_ANCESTOR),
+            stack: Vec::new(alloc),
+        }
+    }
+}
+
 /// The ways to both roots, which are kept once they are known.
 #[derive(Drop)]
 pub struct Refusals<'a> {
     pair: &'a TreePair<'a>,
-    from: Vec<Option<Ancestor>>,
-    to: Vec<Option<Ancestor>>,
-    stack: Vec<Vertex>,
+    tables: WayTables,
 }
 
 impl<'a> Model for Refusals<'a> {
@@ -79,25 +99,14 @@ impl<'a> Model for Refusals<'a> {
 
     ghost view = { λ r. r.pair.now };
 
-    ghost invariant = { λ r. AreWays r.pair.now r.from.items r.to.items };
-}
-
-/// A table without an entry, for vertices up to this number.
-fn no_entries(alloc: Global, vertices: u32) -> Result<Vec<Option<Ancestor>>, NoMemory>
-    ensures { IfOk result (λ es. HasNoEntry es.items) }
-{
-    let mut entries = Vec::new(alloc);
-    for _ in 0..=vertices {
-        entries.push(None)?;
-    }
-    Ok(entries)
+    ghost invariant = { λ r. AreWays r.pair.now r.tables.from r.tables.to };
 }
 
 /// The walk through `w` has a detour that ends at `x`, or begins there, on its way to the other root.
 fn tried(
     pair: &TreePair<'_>,
     side: Side,
-    own: &mut [Option<Ancestor>],
+    own: &mut Table<Ancestor>,
     stack: &mut Vec<Vertex>,
     w: Vertex,
     x: Vertex,
@@ -127,8 +136,8 @@ fn tried(
 fn has_detour(
     pair: &TreePair<'_>,
     side: Side,
-    own: &mut [Option<Ancestor>],
-    other: &mut [Option<Ancestor>],
+    own: &mut Table<Ancestor>,
+    other: &mut Table<Ancestor>,
     stack: &mut Vec<Vertex>,
     w: Vertex,
     query: &Query,
@@ -157,19 +166,21 @@ fn has_detour(
 }
 
 impl<'a> Refusals<'a> {
-    /// No way yet. Takes 32 bytes a vertex.
-    pub fn new(alloc: Global, pair: &'a TreePair<'a>) -> Result<Refusals<'a>, NoMemory>
+    /// No way yet, in a kept memory, which `into_tables` gives back. Takes 32 bytes a vertex only where the memory
+    /// served no graph with as many vertices before.
+    pub fn new(pair: &'a TreePair<'a>, mut tables: WayTables) -> Result<Refusals<'a>, NoMemory>
         ensures { IfOk result (λ r. r ≡ pair.now) }
     {
-        let vertices = pair.star().graph().vertices();
-        let from = no_entries(alloc, vertices)?;
-        let to = no_entries(alloc, vertices)?;
-        Ok(Refusals {
-            pair,
-            from,
-            to,
-            stack: Vec::new(alloc),
-        })
+        let places = pair.star().graph().vertices() as usize + 1;
+        tables.from.empty(places)?;
+        tables.to.empty(places)?;
+        Ok(Refusals { pair, tables })
+    }
+
+    /// The memory back, for another query. Takes no memory.
+    pub fn into_tables(self) -> WayTables {
+        let Refusals { pair: _, tables } = self;
+        tables
     }
 
     /// The path through `w` is refused: it can't be admissible, since a subpath of it that ends so many arcs after `w`
@@ -188,9 +199,9 @@ impl<'a> Refusals<'a> {
         has_detour(
             self.pair,
             Side::Source,
-            self.from.as_mut_slice(),
-            self.to.as_mut_slice(),
-            &mut self.stack,
+            &mut self.tables.from,
+            &mut self.tables.to,
+            &mut self.tables.stack,
             w,
             query,
             opt_len,
@@ -211,9 +222,9 @@ impl<'a> Refusals<'a> {
         has_detour(
             self.pair,
             Side::Target,
-            self.to.as_mut_slice(),
-            self.from.as_mut_slice(),
-            &mut self.stack,
+            &mut self.tables.to,
+            &mut self.tables.from,
+            &mut self.tables.stack,
             w,
             query,
             opt_len,

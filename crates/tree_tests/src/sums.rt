@@ -3,15 +3,20 @@
 ghost use Rattle.std.specs.Prelude.{◌≡◌, ◌≤◌, ◌<◌, ◌^◌, ℕ, List, None, IfOk, IsPermutation, if◌then◌else◌, ◌==◌};
 ghost use Rattle.std.specs.List.{list_any, slice_index_or};
 ghost use Rattle.std.specs.List.Sorted.{IsNonDecreasing};
-ghost use Rattle.tree_tests.specs.Sums.{IsInTree, IsSumAt, AreSums, HasNoSum, carried};
+ghost use Rattle.tree_tests.specs.Sums.{IsInTree, IsSumAt, AreSums, carried};
 ghost use Rattle.tree_tests.specs.declared.sides.Side.TheVariants.{Source, Target};
 ghost use Rattle.road_model.specs.Alternatives.{IsVia};
 
 use crate::sides::{Side, distance, step_up};
+use crate::table::{Stamped, Table};
 use canonical_trees::TreePair;
 use road_model::{ArcList, ArcNo, NoMemory, Step, Vertex};
 use std::alloc::Global;
 use std::marker::Model;
+use std::mem::size_of;
+
+// An entry of a table takes 16 bytes.
+const _: () = prove!(size_of::<Stamped<u64>>() == 16);
 
 /// What a step adds: its length, if its arc is one of these.
 pub(crate) fn weight(ascending: &[u32], step: &Step) -> u64
@@ -25,23 +30,14 @@ pub(crate) fn weight(ascending: &[u32], step: &Step) -> u64
 }
 
 /// The sum of a vertex, if it is there.
-fn known(sums: &[Option<u64>], v: Vertex) -> Option<u64>
+fn known(sums: &Table<u64>, v: Vertex) -> Option<u64>
     ensures { result ≡ slice_index_or sums.now v None }
 {
-    match sums.get(v.number() as usize) {
-        Some(sum) => *sum,
-        None => None,
-    }
+    sums.get(v.number() as usize)
 }
 
 /// The sum of a vertex, from the first vertex towards the root that has one.
-fn climbed(
-    pair: &TreePair<'_>,
-    side: Side,
-    ascending: &[u32],
-    sums: &[Option<u64>],
-    v: Vertex,
-) -> u64
+fn climbed(pair: &TreePair<'_>, side: Side, ascending: &[u32], sums: &Table<u64>, v: Vertex) -> u64
     requires rising { IsNonDecreasing ascending.now }
     requires sums { AreSums pair.now side ascending.now sums.now }
     requires inside { IsInTree pair.now side v }
@@ -68,7 +64,7 @@ fn fill(
     pair: &TreePair<'_>,
     side: Side,
     ascending: &[u32],
-    sums: &mut [Option<u64>],
+    sums: &mut Table<u64>,
     v: Vertex,
     sum: u64,
 )
@@ -82,10 +78,7 @@ fn fill(
     let mut at = v;
     let mut near = distance(pair, side, v);
     while known(sums, at).is_none() {
-        let place = at.number() as usize;
-        if place < sums.len() {
-            sums[place] = Some(left);
-        }
+        sums.set(at.number() as usize, left);
         let Some(step) = step_up(pair, side, at) else {
             return;
         };
@@ -100,7 +93,7 @@ pub(crate) fn sum_at(
     pair: &TreePair<'_>,
     side: Side,
     ascending: &[u32],
-    sums: &mut [Option<u64>],
+    sums: &mut Table<u64>,
     v: Vertex,
 ) -> u64
     requires rising { IsNonDecreasing ascending.now }
@@ -119,14 +112,32 @@ pub(crate) fn sum_at(
     sum
 }
 
+/// The memory of the sums of a query, for one query after another. It tells nothing of the queries before.
+///
+/// It keeps 32 bytes a vertex of the largest graph so far.
+#[derive(Drop)]
+pub struct SumTables {
+    from: Table<u64>,
+    to: Table<u64>,
+}
+
+impl SumTables {
+    /// A memory for no graph yet: the first query over a graph lays it out. Takes no memory itself.
+    pub fn new(alloc: Global) -> SumTables {
+        SumTables {
+            from: Table::new(alloc, 0),
+            to: Table::new(alloc, 0),
+        }
+    }
+}
+
 /// The shared lengths of the paths through vertices, where those are kept that were asked for before.
 #[derive(Drop)]
 pub struct SharedSums<'a> {
     pair: &'a TreePair<'a>,
     optimum: &'a ArcList,
     ascending: Vec<u32>,
-    from: Vec<Option<u64>>,
-    to: Vec<Option<u64>>,
+    tables: SumTables,
 }
 
 impl<'a> Model for SharedSums<'a> {
@@ -136,7 +147,7 @@ impl<'a> Model for SharedSums<'a> {
 
     ghost view = { λ s. record { trees = s.pair.now; optimum = s.optimum.now } };
 
-    ghost invariant = { λ s. AreKept s.pair.now s.optimum.now s.ascending.items s.from.items s.to.items };
+    ghost invariant = { λ s. AreKept s.pair.now s.optimum.now s.ascending.items s.tables.from s.tables.to };
 }
 
 /// The numbers of these arcs, ascending.
@@ -152,37 +163,38 @@ fn ascending(alloc: Global, arcs: &[ArcNo]) -> Result<Vec<u32>, NoMemory>
     Ok(numbers)
 }
 
-/// A table without an entry, for vertices up to this number.
-fn no_sums(alloc: Global, vertices: u32) -> Result<Vec<Option<u64>>, NoMemory>
-    ensures { IfOk result (λ sums. HasNoSum sums.items) }
-{
-    let mut sums = Vec::new(alloc);
-    for _ in 0..=vertices {
-        sums.push(None)?;
-    }
-    Ok(sums)
-}
-
 impl<'a> SharedSums<'a> {
-    /// No sum yet. Takes 32 bytes a vertex, and 4 bytes an arc of the optimum.
+    /// No sum yet, in a kept memory, which `into_tables` gives back. Takes 4 bytes an arc of the optimum, and 32 bytes
+    /// a vertex only where the memory served no graph with as many vertices before.
     pub fn new(
         alloc: Global,
         pair: &'a TreePair<'a>,
         optimum: &'a ArcList,
+        mut tables: SumTables,
     ) -> Result<SharedSums<'a>, NoMemory>
         ensures { IfOk result (λ s. s ≡ record { trees = pair.now; optimum = optimum.now }) }
     {
-        let vertices = pair.star().graph().vertices();
+        let places = pair.star().graph().vertices() as usize + 1;
+        tables.from.empty(places)?;
+        tables.to.empty(places)?;
         let ascending = ascending(alloc, optimum.as_slice())?;
-        let from = no_sums(alloc, vertices)?;
-        let to = no_sums(alloc, vertices)?;
         Ok(SharedSums {
             pair,
             optimum,
             ascending,
-            from,
-            to,
+            tables,
         })
+    }
+
+    /// The memory back, for another query. Takes no memory.
+    pub fn into_tables(self) -> SumTables {
+        let SharedSums {
+            pair: _,
+            optimum: _,
+            ascending: _,
+            tables,
+        } = self;
+        tables
     }
 
     /// The length of those arcs of the path through a vertex that are on the optimum, each as often as the path has
@@ -200,14 +212,14 @@ impl<'a> SharedSums<'a> {
             self.pair,
             Side::Source,
             self.ascending.as_slice(),
-            self.from.as_mut_slice(),
+            &mut self.tables.from,
             v,
         );
         let to = sum_at(
             self.pair,
             Side::Target,
             self.ascending.as_slice(),
-            self.to.as_mut_slice(),
+            &mut self.tables.to,
             v,
         );
         from + to

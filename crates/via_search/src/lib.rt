@@ -9,10 +9,12 @@
 
 mod candidates;
 mod judging;
+mod memory;
 mod planning;
 mod routes;
 mod verdicts;
 
+pub use memory::PlanMemory;
 pub use planning::{plan, plan_in};
 pub use verdicts::{verdict, verdict_in};
 

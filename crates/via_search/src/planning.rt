@@ -7,8 +7,9 @@ ghost use Rattle.road_model.specs.Answers.{IsAnswer};
 ghost use Rattle.via_search.specs.Judging.{StaysCounted};
 ghost use Rattle.via_search.specs.Asks.{AsksForPlan};
 
+use crate::memory::PlanMemory;
 use crate::routes::alternatives;
-use canonical_trees::{TreeMemory, optimum_in};
+use canonical_trees::optimum_in;
 use forward_star::Star;
 use road_model::{NoMemory, Oracle, Plan, Query};
 use std::alloc::Global;
@@ -17,13 +18,13 @@ use std::alloc::Global;
 /// admissible single-via path once, in rank order.
 ///
 /// It takes a search that stops at the target, and two searches up to the stretch bound of the optimum, in the memory
-/// that is handed in and kept for the next query: 16 bytes a vertex. Beside it, 64 bytes a vertex, and 4 bytes an arc
-/// of each path that is listed. What a path shares is told by sums along the trees, and
-/// most that fail a test by the trees alone; each path that is left is put to the oracle once. An `Err` leaves the
-/// oracle as good as before.
+/// that is handed in and kept for the next query. That has 80 bytes a vertex, which are laid out once: a plan takes the
+/// time of what its searches visit, and beside the memory 4 bytes an arc of each path that is listed. What a path
+/// shares is told by sums along the trees, and most that fail a test by the trees alone; each path that is left is put
+/// to the oracle once. An `Err` leaves the oracle as good as before, and a memory that is laid out anew.
 pub fn plan_in<O: Oracle>(
     alloc: Global,
-    memory: &mut TreeMemory,
+    memory: &mut PlanMemory,
     star: &Star,
     oracle: &mut O,
     query: &Query,
@@ -37,7 +38,7 @@ pub fn plan_in<O: Oracle>(
     ensures asks { AsksForPlan star.now query.now (O.asked oracle.old) (O.asked oracle.new) }
 {
     let _limits = star.graph();
-    let Some(optimum) = optimum_in(alloc, memory, star, query.from, query.to)? else {
+    let Some(optimum) = optimum_in(alloc, &mut memory.trees, star, query.from, query.to)? else {
         return Ok(Plan::NoPath);
     };
     let others = alternatives(alloc, memory, star, oracle, query, &optimum)?;
@@ -59,7 +60,7 @@ pub fn plan<O: Oracle>(
     ensures counted { StaysCounted (O.asked oracle.old) (O.asked oracle.new) }
     ensures asks { AsksForPlan star.now query.now (O.asked oracle.old) (O.asked oracle.new) }
 {
-    let mut memory = TreeMemory::new(alloc);
+    let mut memory = PlanMemory::new(alloc);
     let plan = plan_in(alloc, &mut memory, star, oracle, query)?;
     Ok(plan)
 }

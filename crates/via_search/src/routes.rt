@@ -12,14 +12,16 @@ ghost use Rattle.via_search.specs.Listing.{IsRouteOf};
 
 use crate::candidates::candidate_of;
 use crate::judging::passes_oracle;
-use canonical_trees::{TreeMemory, TreePair, trees_in};
+use crate::memory::PlanMemory;
+use canonical_trees::{TreePair, trees_in};
 use forward_star::Star;
 use path_tests::within_share;
 use plateau_finder::{Plateau, plateaus_within};
 use road_model::{NoMemory, Optimum, Oracle, Query, Route, RouteList};
 use route_ranking::{order_routes, rank};
 use std::alloc::Global;
-use tree_tests::{Refusals, SharedSums};
+use std::mem;
+use tree_tests::{Refusals, SharedSums, SumTables, WayTables};
 
 /// The route of a plateau's path, where it is an alternative. The optimum is known by the target, which is among
 /// the vertices of its plateau alone.
@@ -80,9 +82,10 @@ fn route_of<O: Oracle>(
     }))
 }
 
-/// The alternatives among the paths of these plateaus.
+/// The alternatives among the paths of these plateaus. The tables of the memory are taken, and given back.
 fn routes_of<O: Oracle>(
     alloc: Global,
+    memory: &mut PlanMemory,
     star: &Star,
     pair: &TreePair<'_>,
     oracle: &mut O,
@@ -102,8 +105,10 @@ fn routes_of<O: Oracle>(
     ensures asks { AsksAtMost star.now query.now.from query.now.to bound optimum.now.arcs
         (O.asked oracle.old) (O.asked oracle.new) }
 {
-    let mut sums = SharedSums::new(alloc, pair, &optimum.arcs)?;
-    let mut ways = Refusals::new(alloc, pair)?;
+    let sum_tables = mem::replace(&mut memory.sums, SumTables::new(alloc));
+    let way_tables = mem::replace(&mut memory.ways, WayTables::new(alloc));
+    let mut sums = SharedSums::new(alloc, pair, &optimum.arcs, sum_tables)?;
+    let mut ways = Refusals::new(pair, way_tables)?;
     let mut routes = RouteList::new(alloc);
     for plateau in plateaus {
         if let Some(route) = route_of(
@@ -112,6 +117,8 @@ fn routes_of<O: Oracle>(
             routes.push(route)?;
         }
     }
+    memory.sums = sums.into_tables();
+    memory.ways = ways.into_tables();
     let routes = order_routes(routes)?;
     Ok(routes)
 }
@@ -119,7 +126,7 @@ fn routes_of<O: Oracle>(
 /// All alternatives, in order. The trees are made in the memory, which is given back.
 pub(crate) fn alternatives<O: Oracle>(
     alloc: Global,
-    memory: &mut TreeMemory,
+    memory: &mut PlanMemory,
     star: &Star,
     oracle: &mut O,
     query: &Query,
@@ -134,10 +141,18 @@ pub(crate) fn alternatives<O: Oracle>(
     ensures asks { AsksForPlan star.now query.now (O.asked oracle.old) (O.asked oracle.new) }
 {
     let bound = query.epsilon.bound(optimum.length);
-    let pair = trees_in(alloc, memory, star, query.from, query.to, Some(bound))?;
+    let pair = trees_in(
+        alloc,
+        &mut memory.trees,
+        star,
+        query.from,
+        query.to,
+        Some(bound),
+    )?;
     let plateaus = plateaus_within(alloc, &pair, bound)?;
     let routes = routes_of(
         alloc,
+        memory,
         star,
         &pair,
         oracle,
@@ -146,6 +161,6 @@ pub(crate) fn alternatives<O: Oracle>(
         bound,
         plateaus.as_slice(),
     )?;
-    *memory = pair.into_memory();
+    memory.trees = pair.into_memory();
     Ok(routes)
 }

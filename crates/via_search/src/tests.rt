@@ -198,6 +198,42 @@ fn lists_the_optimum_and_each_alternative(rt: HostRuntime) -> Result<(), Fail> {
     Ok(())
 }
 
+fn plan_kept(
+    alloc: Global,
+    memory: &mut PlanMemory,
+    star: &Star,
+    ends: (u32, u32),
+) -> Result<Plan, Fail> {
+    let _limits = star.graph();
+    let mut oracle = PlainOracle::new(alloc, star)?;
+    let query = query_of(star, ends, DEFAULT)?;
+    let plan = plan_in(alloc, memory, star, &mut oracle, &query)?;
+    Ok(plan)
+}
+
+#[test]
+fn plans_one_query_after_another(rt: HostRuntime) -> Result<(), Fail> {
+    let over_a =
+        "optimum length 20 arcs 1 2; via 3 length 22 shared 0 plateau 6 rank 38 arcs 3 4 5";
+    let over_c =
+        "optimum length 20 arcs 1 2 3; via 4 length 21 shared 5 plateau 5 rank 42 arcs 1 4 5 6";
+    let over_d = "optimum length 10 arcs 3 2; via 1 length 10 shared 0 plateau 5 rank 15 arcs 1 4";
+    let cases: [(u32, Arcs, &str); 4] = [
+        (4, D, over_d),
+        (6, A, over_a),
+        (6, C, over_c),
+        (6, A, over_a),
+    ];
+    let mut memory = PlanMemory::new(rt.alloc());
+    for (vertices, arcs, wanted) in cases {
+        let star = star_of(rt.alloc(), vertices, arcs)?;
+        let made = plan_kept(rt.alloc(), &mut memory, &star, (1, vertices))?;
+        let text = text_of(rt.alloc(), &made)?;
+        assert_eq!(rt; text.as_str(), wanted);
+    }
+    Ok(())
+}
+
 fn write_pair(text: &mut String, pair: &Pair) -> Result<(), Fail> {
     let (first, last, distance) = (pair.first, pair.last, pair.distance);
     write!(text, "{first} {last} {distance}")?;

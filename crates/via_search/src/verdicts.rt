@@ -12,7 +12,8 @@ ghost use Rattle.plateau_finder.specs.Plateaus.{IsInBoth};
 
 use crate::candidates::{candidate_of, is_optimum};
 use crate::judging::{Judged, judge};
-use canonical_trees::{TreeMemory, TreePair, optimum_in, trees_in};
+use crate::memory::PlanMemory;
+use canonical_trees::{TreePair, optimum_in, trees_in};
 use forward_star::Star;
 use plateau_finder::plateau_through;
 use road_model::{NoMemory, Optimum, Oracle, Query, Verdict, Vertex};
@@ -118,7 +119,7 @@ fn verdict_on_path<O: Oracle>(
 /// the next query, the tests of this one path, and memory linear in its arcs. An `Err` leaves the oracle as good as before.
 pub fn verdict_in<O: Oracle>(
     alloc: Global,
-    memory: &mut TreeMemory,
+    memory: &mut PlanMemory,
     star: &Star,
     oracle: &mut O,
     query: &Query,
@@ -133,7 +134,7 @@ pub fn verdict_in<O: Oracle>(
     ensures counted { StaysCounted (O.asked oracle.old) (O.asked oracle.new) }
 {
     let _limits = star.graph();
-    let Some(optimum) = optimum_in(alloc, memory, star, query.from, query.to)? else {
+    let Some(optimum) = optimum_in(alloc, &mut memory.trees, star, query.from, query.to)? else {
         return Ok(None);
     };
     let Some(length) = length_through(star, oracle, query, via)? else {
@@ -142,9 +143,16 @@ pub fn verdict_in<O: Oracle>(
     if !query.epsilon.stretches(length, optimum.length) {
         return Ok(Some(Verdict::Long(length)));
     }
-    let pair = trees_in(alloc, memory, star, query.from, query.to, Some(length))?;
+    let pair = trees_in(
+        alloc,
+        &mut memory.trees,
+        star,
+        query.from,
+        query.to,
+        Some(length),
+    )?;
     let found = verdict_on_path(alloc, star, &pair, oracle, query, &optimum, via, length)?;
-    *memory = pair.into_memory();
+    memory.trees = pair.into_memory();
     Ok(Some(found))
 }
 
@@ -164,7 +172,7 @@ pub fn verdict<O: Oracle>(
     ensures same { O.graph oracle.new ≡ O.graph oracle.old }
     ensures counted { StaysCounted (O.asked oracle.old) (O.asked oracle.new) }
 {
-    let mut memory = TreeMemory::new(alloc);
+    let mut memory = PlanMemory::new(alloc);
     let verdict = verdict_in(alloc, &mut memory, star, oracle, query, via)?;
     Ok(verdict)
 }

@@ -1,4 +1,3 @@
-use Rattle.std.proofs.Common.{ℕ}
 use Rattle.tree_tests.specs.Ancestors.{AreAncestors, IsLifted, opposite}
 use Rattle.tree_tests.proofs.refusals.has_detour.Given as goal
 

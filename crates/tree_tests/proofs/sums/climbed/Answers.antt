@@ -1,5 +1,4 @@
-use Rattle.std.proofs.Common.{◌≡◌, ◌+◌, ◌<◌, ◌≤◌, ◌∙◌, sym, arith}
-use Rattle.tree_tests.specs.Sums.{IsSumAt}
+use Rattle.std.proofs.Common.{◌∙◌, sym, arith}
 use Rattle.tree_tests.proofs.Climbs.{climb_start, climb_more, climb_known, climb_root, add_fits, nearer_up}
 use Rattle.tree_tests.proofs.sums.climbed.Goals as goal
 

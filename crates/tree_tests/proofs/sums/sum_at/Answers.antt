@@ -1,4 +1,4 @@
-use Rattle.std.proofs.Common.{◌≡◌, ◌∙◌, sym, arith}
+use Rattle.std.proofs.Common.{◌∙◌, sym, arith}
 use Rattle.tree_tests.proofs.sums.sum_at.Goals as goal
 
 pub returns-in-Some-clause-short : goal.returns-in-Some-clause-short

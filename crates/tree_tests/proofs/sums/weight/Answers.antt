@@ -1,4 +1,4 @@
-use Rattle.std.proofs.Common.{◌≡◌, false, ◌==◌, ◌<◌, ◌≤◌, ℕ, List, Err, length, get_or, sym, subst}
+use Rattle.std.proofs.Common.{◌≡◌, false, ◌==◌, ℕ, Err, sym, subst}
 use Rattle.std.specs.List.{list_any}
 use Rattle.std.proofs.lemmas.Bool.{cond-false}
 use Rattle.std.proofs.lemmas.List.Sorted.{searched}

@@ -1,7 +1,7 @@
 use Rattle.std.proofs.Common.{◌≡◌, ◌+◌, ℕ, List, subst}
 use Rattle.road_model.specs.Alternatives.{IsVia}
 use Rattle.tree_tests.specs.Sums.{Shares, carried}
-use Rattle.tree_tests.proofs.Tables.{through_sum}
+use Rattle.tree_tests.proofs.Halves.{through_sum}
 use Rattle.tree_tests.proofs.sums.SharedSums.through.Goals as goal
 
 pub returns-clause-sum : goal.returns-clause-sum

@@ -1,19 +1,13 @@
--- Tables without a sum, and what two sums say of the path through a vertex.
-use Rattle.std.proofs.Common.{◌≡◌, ℕ, ◌+◌, ◌==◌, zero, suc, Bool, cond, List, [], ◌∷◌, ◌++◌, get_or, Option, Some, None, IsPermutation, refl, sym, ap, ◌∙◌, subst, arith}
-use Rattle.std.specs.List.{list_any, sum_by}
+-- What two sums say of the path through a vertex.
+use Rattle.std.proofs.Common.{◌≡◌, ℕ, ◌+◌, ◌==◌, Bool, cond, List, [], ◌∷◌, ◌++◌, IsPermutation, refl, ap, subst, arith}
+use Rattle.std.specs.List.{list_any}
 use Rattle.std.proofs.lemmas.List.Sums.{sum_by-cons, sum_by-append}
 use Rattle.std.proofs.lemmas.List.Sorted.{list_any-IsPermutation}
 use Rattle.road_model.specs.Graph.{Graph, length_at}
 use Rattle.road_model.specs.Alternatives.{IsVia}
 use Rattle.canonical_trees.specs.Trees.{Trees}
 use Rattle.tree_tests.specs.declared.sides.Side.TheVariants.{Source, Target}
-use Rattle.tree_tests.specs.Sums.{weight_on, carried, IsSumAt, HasNoSum}
-
-pub no_sum_push : (xs : List (Option ℕ)) → HasNoSum xs → HasNoSum (xs ++ None ∷ [])
-no_sum_push [] h zero = refl
-no_sum_push [] h (suc v) = refl
-no_sum_push (x ∷ xs) h zero = h zero
-no_sum_push (x ∷ xs) h (suc v) = no_sum_push xs (λ w. h (suc w)) v
+use Rattle.tree_tests.specs.Sums.{weight_on, carried, IsSumAt}
 
 -- what is carried doesn't depend on the order of the arcs
 carried_same : (g : Graph) (o asc p : List ℕ) → IsPermutation o asc → carried g asc p ≡ carried g o p
