@@ -12,7 +12,7 @@ use rand_xoshiro::SplitMix64;
 use road_model::{Network, NoMemory, Query, Route, Vertex};
 use std::alloc::Global;
 use tree_search::PlainOracle;
-use via_search::plan;
+use via_search::{PlanMemory, plan_in};
 
 // The vertex of the next word.
 fn drawn(words: &mut SplitMix64, vertices: u32) -> Vertex
@@ -53,10 +53,17 @@ pub fn answer_all(
         length: 0,
     };
     let mut oracle = PlainOracle::new(alloc, star)?;
+    let mut memory = PlanMemory::new(alloc);
     for _query in 0..queries {
         let from = drawn(words, vertices);
         let to = drawn(words, vertices);
-        let answer = plan(alloc, star, &mut oracle, &Query::usual(from, to))?;
+        let answer = plan_in(
+            alloc,
+            &mut memory,
+            star,
+            &mut oracle,
+            &Query::usual(from, to),
+        )?;
         summary.count(&answer);
     }
     Ok(summary)

@@ -10,7 +10,7 @@ ghost use Rattle.line_front.specs.Replies.{HasItems};
 ghost use Rattle.route_server.specs.Serving.{limits_of, opening};
 ghost use Rattle.route_server.specs.Desks.{IsDesk, IsDeskRequest, IsReadersLine, IsSaid};
 
-use canonical_trees::{TreeMemory, optimum_in};
+use canonical_trees::optimum_in;
 use desk_core::{Asked, Limits, page_reply, tested};
 use forward_star::Star;
 use line_front::Parsed;
@@ -18,7 +18,7 @@ use road_model::{
     ErrorKind, Network, NoMemory, Optimum, Oracle, Plan, Reply, Request, Verdict, Vertex,
 };
 use std::alloc::Global;
-use via_search::{plan_in, verdict_in};
+use via_search::{PlanMemory, plan_in, verdict_in};
 
 /// The number of the one version.
 const NUMBER: u64 = 1;
@@ -89,7 +89,7 @@ fn refused(kind: ErrorKind) -> Answer
 /// Answers what was asked.
 fn answered<O: Oracle>(
     alloc: Global,
-    memory: &mut TreeMemory,
+    memory: &mut PlanMemory,
     star: &Star,
     oracle: &mut O,
     asked: &Asked,
@@ -104,7 +104,7 @@ fn answered<O: Oracle>(
 {
     match asked {
         Asked::Best { from, to } => Ok(Answer {
-            reply: best_reply(optimum_in(alloc, memory, star, *from, *to)?),
+            reply: best_reply(optimum_in(alloc, &mut memory.trees, star, *from, *to)?),
             shown: None,
         }),
         Asked::Page {
@@ -136,7 +136,7 @@ fn answered<O: Oracle>(
 /// A page costs a plan, since none is kept. Searches are made in the memory.
 pub fn reply_to<O: Oracle>(
     alloc: Global,
-    memory: &mut TreeMemory,
+    memory: &mut PlanMemory,
     star: &Star,
     oracle: &mut O,
     request: &Request,
@@ -159,7 +159,7 @@ pub fn reply_to<O: Oracle>(
 /// What is said to a line.
 pub fn say<O: Oracle>(
     alloc: Global,
-    memory: &mut TreeMemory,
+    memory: &mut PlanMemory,
     star: &Star,
     oracle: &mut O,
     asked: &Parsed,

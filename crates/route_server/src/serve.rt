@@ -15,7 +15,6 @@ use crate::answering::{Answer, Said, say};
 use crate::gathered::Gathered;
 use crate::input::{NextLine, next_line};
 use crate::status::Status;
-use canonical_trees::TreeMemory;
 use forward_star::Star;
 use line_front::{MAX_LINE, Parsed, write_reply};
 use road_io::{Put, Sink, Source};
@@ -23,6 +22,7 @@ use road_model::Oracle;
 use road_text::LineReader;
 use std::alloc::Global;
 use tree_search::PlainOracle;
+use via_search::PlanMemory;
 
 /// The most bytes of input.
 const MAX_INPUT: u64 = 4294967296;
@@ -59,7 +59,7 @@ fn send<K: Sink>(answer: &Answer, gathered: &mut Gathered, output: &mut K) -> Se
 /// Answers one line.
 fn serve_one<O: Oracle, K: Sink>(
     alloc: Global,
-    memory: &mut TreeMemory,
+    memory: &mut PlanMemory,
     star: &Star,
     oracle: &mut O,
     asked: &Parsed,
@@ -85,7 +85,7 @@ fn serve_one<O: Oracle, K: Sink>(
 
 /// Answers the lines of the input until one ends the run, or the input ends, or a call of the outside fails.
 ///
-/// It keeps 128 KB for lines, 24 bytes a vertex for searches, and the longest reply.
+/// It keeps 128 KB for lines, 88 bytes a vertex for searches and plans, and the longest reply.
 pub fn serve<S: Source, K: Sink>(
     alloc: Global,
     star: &Star,
@@ -115,7 +115,7 @@ pub fn serve<S: Source, K: Sink>(
         return Status::NoMemory;
     };
     let mut gathered = Gathered::new(alloc);
-    let mut memory = TreeMemory::new(alloc);
+    let mut memory = PlanMemory::new(alloc);
     'lines: loop {
         match next_line(&mut reader, input) {
             NextLine::More(asked) => {
