@@ -6,7 +6,7 @@ use Rattle.road_model.specs.Graph.{Graph, length_at, row_length, IsVertex}
 use Rattle.road_model.specs.Walk.{IsWalk, walk_length}
 use Rattle.road_model.specs.Dist.{HasWalk, IsDist, DistsBelow, NoneShorter}
 use Rattle.road_model.proofs.Walks.{IsWalk-append, walk_length-append}
-use Rattle.hierarchy_build.specs.Hills.{IsRise, rise_length, Hill, HillWithin, HasHill, NoneLower, Within, IsHillDist, HasTriangles, IsSound, Covers, HasHillDists}
+use Rattle.hierarchy_build.specs.Hills.{IsRise, rise_length, Hill, HillWithin, HasHill, NoneLower, Within, IsHillDist, HasTriangles, IsSound, Covers, HasHills, HasHillDists}
 
 pub IsRise-push : (L : ℕ → ℕ → ℕ → Type 0) (p : List (ℕ × ℕ)) (a b c x : ℕ) → IsRise L a p b → L b c x → IsRise L a (p ++ (c, x) ∷ []) c
 IsRise-push L [] a b c x rise link = (subst (λ (n : ℕ). L n c x) (sym rise) link, refl)
@@ -115,6 +115,9 @@ hill_of_walk cap g rank U D t covers (a ∷ p) u v walk low =
     (covers a walk.0 walk.1 other))
     (same_or_other walk.0.tail walk.0.head)
 
+pub hills_of_walks : (cap : ℕ) (g : Graph) (rank : ℕ → ℕ) (U D : ℕ → ℕ → ℕ → Type 0) → HasTriangles cap U D → Covers g rank U D → HasHills cap g rank U D
+hills_of_walks cap g rank U D t covers u v p is_u is_v walk low = hill_of_walk cap g rank U D t covers p u v walk low
+
 pub HasWalk-joined : (g : Graph) (u v w j k : ℕ) → HasWalk g u v j → HasWalk g v w k → HasWalk g u w (j + k)
 HasWalk-joined g u v w j k h i =
     record {
@@ -123,12 +126,12 @@ HasWalk-joined g u v w j k h i =
       long = omega (arith, walk_length-append g h.path i.path, h.long, i.long);
     }
 
-walk_up : (g : Graph) (name : ℕ → ℕ) (U D : ℕ → ℕ → ℕ → Type 0) → IsSound g name U D → (p : List (ℕ × ℕ)) (a b : ℕ) → IsRise U a p b → HasWalk g (name a) (name b) (rise_length p)
+pub walk_up : (g : Graph) (name : ℕ → ℕ) (U D : ℕ → ℕ → ℕ → Type 0) → IsSound g name U D → (p : List (ℕ × ℕ)) (a b : ℕ) → IsRise U a p b → HasWalk g (name a) (name b) (rise_length p)
 walk_up g name U D sound [] a b rise = record { path = []; walk = ap name rise; long = refl }
 walk_up g name U D sound (s ∷ p) a b rise =
     HasWalk-joined g (name a) (name s.0) (name b) s.1 (rise_length p) (sound.up a s.0 s.1 rise.0) (walk_up g name U D sound p s.0 b rise.1)
 
-walk_down : (g : Graph) (name : ℕ → ℕ) (U D : ℕ → ℕ → ℕ → Type 0) → IsSound g name U D → (p : List (ℕ × ℕ)) (a b : ℕ) → IsRise D a p b → HasWalk g (name b) (name a) (rise_length p)
+pub walk_down : (g : Graph) (name : ℕ → ℕ) (U D : ℕ → ℕ → ℕ → Type 0) → IsSound g name U D → (p : List (ℕ × ℕ)) (a b : ℕ) → IsRise D a p b → HasWalk g (name b) (name a) (rise_length p)
 walk_down g name U D sound [] a b rise = record { path = []; walk = ap name (sym rise); long = refl }
 walk_down g name U D sound (s ∷ p) a b rise =
     let w : HasWalk g (name b) (name a) (rise_length p + s.1) = HasWalk-joined g (name b) (name s.0) (name a) (rise_length p) s.1 (walk_down g name U D sound p s.0 b rise.1) (sound.down a s.0 s.1 rise.0) in
@@ -200,14 +203,14 @@ from_hills cap g U D u v a b (Some k) m h =
     (cases_lt (walk_length g q) cap)) in
     (subst (λ (n : ℕ). HasWalk g u v n) h.0.long w, none)
 
-pub hills_have_dists : (cap : ℕ) (g : Graph) (name rank : ℕ → ℕ) (U D : ℕ → ℕ → ℕ → Type 0) → ((v : ℕ) → IsVertex g.vertices v → name (rank v) ≡ v) → HasTriangles cap U D → Covers g rank U D → IsSound g name U D → DistsBelow g cap → HasHillDists cap g rank U D
-hills_have_dists cap g name rank U D back t covers sound below u v d is_u is_v =
+pub hills_have_dists : (cap : ℕ) (g : Graph) (name rank : ℕ → ℕ) (U D : ℕ → ℕ → ℕ → Type 0) → ((v : ℕ) → IsVertex g.vertices v → name (rank v) ≡ v) → HasHills cap g rank U D → IsSound g name U D → DistsBelow g cap → HasHillDists cap g rank U D
+hills_have_dists cap g name rank U D back hills sound below u v d is_u is_v =
     let m : Meets cap g U D u v (rank u) (rank v) = record {
       walk = (λ h.
           subst (λ (n : ℕ). HasWalk g n v (rise_length h.rise + rise_length h.fall)) (back u is_u)
           (subst (λ (n : ℕ). HasWalk g (name (rank u)) n (rise_length h.rise + rise_length h.fall)) (back v is_v)
           (walk_of_hill g name U D sound (rank u) (rank v) h)));
-      hill = (λ p walk low. hill_of_walk cap g rank U D t covers p u v walk low);
+      hill = (λ p walk low. hills u v p is_u is_v walk low);
       below = (λ p walk none. below u v p walk none);
     } in
     (to_hills cap g U D u v (rank u) (rank v) d m, from_hills cap g U D u v (rank u) (rank v) d m)

@@ -4,5 +4,8 @@ pub mod Pushes
 pub mod Arcs
 pub mod Waits
 pub mod Ranks
+pub mod Pulls
+pub mod Kept
+pub mod Thinning
 pub mod Whole
 pub mod Versions

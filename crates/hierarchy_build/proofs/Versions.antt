@@ -1,12 +1,11 @@
 -- A shape of one version of a graph is one of every other.
-use Rattle.std.proofs.Common.{◌≡◌, ◌≢◌, ◌-◌, ◌<◌, ℕ, zero, suc, List, [], ◌∷◌, Option, Some, None, length, slice_index, slice_index_or, get_or, set, refl, sym, ap, ◌∙◌, subst, arith, ⊎_elim, get_or-set_same, get_or-set_other}
-use Rattle.std.specs.List.{All}
+use Rattle.std.proofs.Common.{◌≡◌, ◌≢◌, ◌-◌, ◌<◌, ℕ, zero, suc, List, [], ◌∷◌, Option, Some, None, length, slice_index, get_or, set, refl, sym, ap, ◌∙◌, subst, arith, ⊎_elim, get_or-set_same, get_or-set_other}
 use Rattle.std.proofs.Math.ListN.{length-set}
 use Rattle.std.proofs.lemmas.Option.{slice_get_within, get_or_from_slice_get}
 use Rattle.road_model.specs.declared.rows.ArcRow.{ArcRow}
 use Rattle.road_model.specs.declared.change.Change.{Change}
 use Rattle.road_model.specs.Graph.{Graph, rows_of, arc_at}
-use Rattle.road_model.specs.Changes.{with_row, changed, after, after_all}
+use Rattle.road_model.specs.Changes.{with_row, changed, after}
 use Rattle.hierarchy_build.specs.declared.shape.Shape.{Shape}
 use Rattle.hierarchy_build.specs.Runs.{IsUp, IsShape, IsRanked, IsPlaced}
 use Rattle.hierarchy_build.specs.Hierarchy.{IsShapeOf, HasSameEnds}

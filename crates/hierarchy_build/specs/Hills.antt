@@ -14,10 +14,12 @@
 --                          both, where that is below the cap
 --   IsSound g name U D     each link has the length of some walk of g, where name a is the vertex of rank a
 --   Covers g rank U D      each arc of g that is no loop has a link that isn't longer
+--   HasHills cap g rank U D  each walk of g below the cap has a hill that isn't longer
 --   HasHillDists cap g rank U D  the distances of g are those over hills
 use Rattle.std.specs.Prelude.{◌≡◌, ◌≢◌, ◌<◌, ◌≤◌, ◌+◌, ◌⊎◌, ◌↔◌, ℕ, List, [], ◌∷◌, Option, Some, None}
 use Rattle.road_model.specs.declared.rows.ArcRow.{ArcRow}
 use Rattle.road_model.specs.Graph.{Graph, arc_at, IsVertex}
+use Rattle.road_model.specs.Walk.{IsWalk, walk_length}
 use Rattle.road_model.specs.Dist.{HasWalk, IsDist}
 
 abbrev pub IsRise : (ℕ → ℕ → ℕ → Type 0) → ℕ → List (ℕ × ℕ) → ℕ → Type 0
@@ -77,6 +79,11 @@ abbrev pub Covers : Graph → (ℕ → ℕ) → (ℕ → ℕ → ℕ → Type 0)
 Covers g rank U D =
     (k : ℕ) (r : ArcRow) → arc_at g k ≡ Some r → r.tail ≢ r.head
     → Within U (rank r.tail) (rank r.head) r.length ⊎ Within D (rank r.head) (rank r.tail) r.length
+
+abbrev pub HasHills : ℕ → Graph → (ℕ → ℕ) → (ℕ → ℕ → ℕ → Type 0) → (ℕ → ℕ → ℕ → Type 0) → Type 0
+HasHills cap g rank U D =
+    (u v : ℕ) (p : List ℕ) → IsVertex g.vertices u → IsVertex g.vertices v → IsWalk g u p v → walk_length g p < cap
+    → HillWithin U D (rank u) (rank v) (walk_length g p)
 
 abbrev pub HasHillDists : ℕ → Graph → (ℕ → ℕ) → (ℕ → ℕ → ℕ → Type 0) → (ℕ → ℕ → ℕ → Type 0) → Type 0
 HasHillDists cap g rank U D =

@@ -1,5 +1,6 @@
 pub mod Hills
 pub mod Runs
 pub mod Lengths
+pub mod Links
 pub mod Waits
 pub mod Hierarchy

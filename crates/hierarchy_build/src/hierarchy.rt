@@ -1,8 +1,11 @@
-ghost use Rattle.std.specs.Prelude.{◌≡◌, IfOk};
+ghost use Rattle.std.specs.Prelude.{◌≡◌, length, IfOk};
 ghost use Rattle.contraction_order.specs.Order.{IsOrder};
+ghost use Rattle.hierarchy_build.specs.Lengths.{CanPush, Keeps};
 ghost use Rattle.hierarchy_build.specs.Hierarchy.{IsShapeOf, HasLengths, IsHierarchy};
 
 use crate::base::lower_all;
+use crate::links::{Links, keep};
+use crate::pull::pull_triangles;
 use crate::shape::Shape;
 use contraction_order::Order;
 use forward_star::Star;
@@ -14,20 +17,19 @@ use std::sync::Arc;
 pub const NO_LINK: u64 = 144115188075855872;
 
 /// A customisable contraction hierarchy of a graph: a shape, which depends on the ends of the arcs alone, and
-/// the length of each link upwards and downwards (Dibbelt, Strasser and Wagner: Customizable Contraction
-/// Hierarchies).
+/// those links upwards and downwards that may lie on a shortest walk, with their lengths.
 ///
-/// It takes 16 bytes a link besides the shape.
+/// It takes 8 bytes a rank and 12 bytes a link that is kept, besides the shape.
 #[derive(Drop)]
 pub struct Hierarchy {
     pub shape: Arc<Shape, Global>,
-    /// The length of each link from its lower rank to its higher one.
-    pub up: SumList,
-    /// The length of each link from its higher rank to its lower one.
-    pub down: SumList,
+    /// The links from lower ranks to higher ones.
+    pub up: Links,
+    /// The links from higher ranks to lower ones, each at its lower rank.
+    pub down: Links,
 }
 
-// The lengths of the links of a shape, both ways.
+// A length for each link of a shape, both ways.
 #[derive(Drop)]
 struct Lengths {
     up: SumList,
@@ -56,8 +58,28 @@ fn lengths_of(alloc: Global, shape: &Shape, star: &Star) -> Result<Lengths, NoMe
     })
 }
 
+// The length of the best walk known between the ends of each link.
+fn thinned(alloc: Global, shape: &Shape, lengths: &Lengths) -> Result<Lengths, NoMemory>
+    requires { CanPush (length shape.now.order) shape.now.first shape.now.head lengths.now.up lengths.now.down }
+    ensures { IfOk result (λ l. Keeps (length shape.now.order) shape.now.first shape.now.head 0 lengths.now.up lengths.now.down l.up l.down) }
+{
+    let mut up = Vec::from_slice(alloc, lengths.up.as_slice())?;
+    let mut down = Vec::from_slice(alloc, lengths.down.as_slice())?;
+    pull_triangles(
+        shape.order.len(),
+        shape.first.as_slice(),
+        shape.head.as_slice(),
+        &mut up,
+        &mut down,
+    );
+    Ok(Lengths {
+        up: Items::from_vec(up),
+        down: Items::from_vec(down),
+    })
+}
+
 /// The hierarchy of a graph for a shape of it, as that of an earlier version with the same ends of arcs. It
-/// takes time linear in its triangles, and no queue.
+/// takes time linear in its triangles, and no queue; while it runs, 32 bytes a link of the shape besides.
 pub fn customise(
     alloc: Global,
     shape: Arc<Shape, Global>,
@@ -67,7 +89,10 @@ pub fn customise(
     ensures hierarchy { IfOk result (λ h. IsHierarchy star.now h) }
     ensures shape { IfOk result (λ h. h.shape.value ≡ shape.value) }
 {
-    let Lengths { up, down } = lengths_of(alloc, &shape, star)?;
+    let lengths = lengths_of(alloc, &shape, star)?;
+    let best = thinned(alloc, &shape, &lengths)?;
+    let up = keep(alloc, &shape, lengths.up, best.up)?;
+    let down = keep(alloc, &shape, lengths.down, best.down)?;
     Ok(Hierarchy { shape, up, down })
 }
 

@@ -3,9 +3,12 @@
 
 mod base;
 mod hierarchy;
+mod links;
 mod pending;
+mod pull;
 mod push;
 mod shape;
 
 pub use hierarchy::{Hierarchy, NO_LINK, contract, customise};
+pub use links::Links;
 pub use shape::Shape;

@@ -16,8 +16,8 @@ least_of_ranks g h n s t best from to is_n is_s is_t least =
 
 pub dist_of_least : (g : Graph) (h : Hierarchy) (best from to : ℕ) → IsHierarchy g h → IsVertex g.vertices from → IsVertex g.vertices to → IsLeastHill (up_links g.vertices h) (down_links g.vertices h) (slice_index h.shape.value.rank from) (slice_index h.shape.value.rank to) best → best < no_link → IsDist g from to (Some best)
 dist_of_least g h best from to is is_from is_to least real =
-    (is.lengths.dists from to (Some best) is_from is_to).1 (least.some real, least.least)
+    (is.dists from to (Some best) is_from is_to).1 (least.some real, least.least)
 
 pub none_of_least : (g : Graph) (h : Hierarchy) (best from to : ℕ) → IsHierarchy g h → IsVertex g.vertices from → IsVertex g.vertices to → IsLeastHill (up_links g.vertices h) (down_links g.vertices h) (slice_index h.shape.value.rank from) (slice_index h.shape.value.rank to) best → no_link ≤ best → IsDist g from to None
 none_of_least g h best from to is is_from is_to least none =
-    (is.lengths.dists from to None is_from is_to).1 (λ hill. let low = least.least hill in omega arith)
+    (is.dists from to None is_from is_to).1 (λ hill. let low = least.least hill in omega arith)

@@ -2,12 +2,14 @@
 use Rattle.std.proofs.Common.{◌≡◌, ◌≢◌, ◌+◌, ◌<◌, ◌≤◌, ◌⊎◌, ℕ, min, List, [], ◌∷◌, length, slice_index, set, sym, ap, ◌∙◌, subst, arith, inl, inr, ⊎_elim, get_or-set_same, get_or-set_other}
 use Rattle.std.proofs.Math.ListN.{length-set}
 use Rattle.std.proofs.lemmas.Bool.{cases_lt}
+use Rattle.hierarchy_build.specs.declared.links.Links.{Links}
 use Rattle.hierarchy_build.specs.Hills.{IsRise, rise_length}
 use Rattle.hierarchy_build.specs.Runs.{InSpan, IsUp, IsShape}
-use Rattle.hierarchy_build.specs.Lengths.{no_link, LinkAt}
+use Rattle.hierarchy_build.specs.Lengths.{no_link}
+use Rattle.hierarchy_build.specs.Links.{links_of}
 use Rattle.hierarchy_build.proofs.Hills.{same_or_other}
 use Rattle.hierarchy_build.proofs.Runs.{head_inside}
-use Rattle.hierarchy_query.specs.Climbs.{IsBlank, IsClimbed, IsPath, Above, CanMeet, IsMeeting, IsLeastHill}
+use Rattle.hierarchy_query.specs.Climbs.{IsBlank, CanClimb, IsClimbed, IsPath, Above, CanMeet, IsMeeting, IsLeastHill}
 use Rattle.hierarchy_query.proofs.Climbs.{over_parent}
 
 along_parent : (n : ℕ) (first head : List ℕ) (x : ℕ) (p : List ℕ) (y : ℕ) → IsShape n first head → x < n → IsPath first head x p y → (x ≡ y) ⊎ Above first head (slice_index head (slice_index first x)) y
@@ -34,22 +36,30 @@ along_top first head x (z ∷ p) y top is =
 above_top : (first head : List ℕ) (x y : ℕ) → slice_index first (x + 1) ≤ slice_index first x → Above first head x y → x ≡ y
 above_top first head x y top h = along_top first head x h.path y top h.is
 
-path_of_rise : (n : ℕ) (first head lengths : List ℕ) (p : List (ℕ × ℕ)) (s y : ℕ) → IsRise (LinkAt n first head lengths) s p y → Above first head s y
-path_of_rise n first head lengths [] s y rise = record { path = []; is = rise }
-path_of_rise n first head lengths (e ∷ p) s y rise =
-    let rest = path_of_rise n first head lengths p e.0 y rise.1 in
-    let link = rise.0 in
-    record { path = e.0 ∷ rest.path; is = (record { place = link.place; span = link.span; is = link.leads }, rest.is) }
+up_of_link : (n : ℕ) (first head : List ℕ) (l : Links) (a b x : ℕ) → CanClimb n first head l → links_of n l a b x → IsUp first head a b
+up_of_link n first head l a b x can link = subst (λ (z : ℕ). IsUp first head a z) link.leads (can.links.under a link.place link.inside link.span)
 
-pub above_of_climbed : (n : ℕ) (first head lengths : List ℕ) (s : ℕ) (labels : List ℕ) → IsClimbed n first head lengths s labels → (y : ℕ) → y < n → slice_index labels y < no_link → Above first head s y
-above_of_climbed n first head lengths s labels c y inside real =
+-- by what the code read
+pub CanClimb-read : (n : ℕ) (first head first' head' : List ℕ) (l : Links) → first' ≡ first → head' ≡ head → CanClimb n first head l → CanClimb n first' head' l
+CanClimb-read n first head first' head' l is_first is_head can =
+    subst (λ (xs : List ℕ). CanClimb n xs head' l) (sym is_first) (subst (λ (xs : List ℕ). CanClimb n first xs l) (sym is_head) can)
+
+path_of_rise : (n : ℕ) (first head : List ℕ) (l : Links) (p : List (ℕ × ℕ)) (s y : ℕ) → CanClimb n first head l → s < n → IsRise (links_of n l) s p y → Above first head s y
+path_of_rise n first head l [] s y can is_s rise = record { path = []; is = rise }
+path_of_rise n first head l (e ∷ p) s y can is_s rise =
+    let up = up_of_link n first head l s e.0 e.1 can rise.0 in
+    let rest = path_of_rise n first head l p e.0 y can (let inside = head_inside n first head s up.place can.shape is_s up.span in let is = up.is in omega arith) rise.1 in
+    record { path = e.0 ∷ rest.path; is = (up, rest.is) }
+
+pub above_of_climbed : (n : ℕ) (first head : List ℕ) (l : Links) (s : ℕ) (labels : List ℕ) → CanClimb n first head l → s < n → IsClimbed n l s labels → (y : ℕ) → y < n → slice_index labels y < no_link → Above first head s y
+above_of_climbed n first head l s labels can is_s c y inside real =
     let rise = c.walks y inside real in
-    path_of_rise n first head lengths rise.path s y rise.rise
+    path_of_rise n first head l rise.path s y can is_s rise.rise
 
-pub blank_or_above : (n : ℕ) (first head lengths : List ℕ) (s : ℕ) (labels : List ℕ) → IsClimbed n first head lengths s labels → (y : ℕ) → y < n → (slice_index labels y ≡ no_link) ⊎ Above first head s y
-blank_or_above n first head lengths s labels c y inside =
+pub blank_or_above : (n : ℕ) (first head : List ℕ) (l : Links) (s : ℕ) (labels : List ℕ) → CanClimb n first head l → s < n → IsClimbed n l s labels → (y : ℕ) → y < n → (slice_index labels y ≡ no_link) ⊎ Above first head s y
+blank_or_above n first head l s labels can is_s c y inside =
     ⊎_elim
-    (λ (real : slice_index labels y < no_link). let r : (slice_index labels y ≡ no_link) ⊎ Above first head s y = inr (above_of_climbed n first head lengths s labels c y inside real) in r)
+    (λ (real : slice_index labels y < no_link). let r : (slice_index labels y ≡ no_link) ⊎ Above first head s y = inr (above_of_climbed n first head l s labels can is_s c y inside real) in r)
     (λ (none : no_link ≤ slice_index labels y). let low = c.low y in let r : (slice_index labels y ≡ no_link) ⊎ Above first head s y = inl (omega arith) in r)
     (cases_lt (slice_index labels y) no_link)
 
@@ -171,21 +181,21 @@ IsBlank-top n first head x labels top c =
           (c.left y inside));
     }
 
-rise_inside : (n : ℕ) (first head lengths : List ℕ) (p : List (ℕ × ℕ)) (s y : ℕ) → IsShape n first head → s < n → IsRise (LinkAt n first head lengths) s p y → y < n
-rise_inside n first head lengths [] s y shape is_s rise = omega (arith, rise)
-rise_inside n first head lengths (e ∷ p) s y shape is_s rise =
-    let link = rise.0 in
-    let leads = link.leads in
-    let inside = head_inside n first head s link.place shape link.inside link.span in
-    rise_inside n first head lengths p e.0 y shape (omega arith) rise.1
+rise_inside : (n : ℕ) (first head : List ℕ) (l : Links) (p : List (ℕ × ℕ)) (s y : ℕ) → CanClimb n first head l → s < n → IsRise (links_of n l) s p y → y < n
+rise_inside n first head l [] s y can is_s rise = omega (arith, rise)
+rise_inside n first head l (e ∷ p) s y can is_s rise =
+    let up = up_of_link n first head l s e.0 e.1 can rise.0 in
+    let inside = head_inside n first head s up.place can.shape is_s up.span in
+    let is = up.is in
+    rise_inside n first head l p e.0 y can (omega arith) rise.1
 
-pub IsLeastHill-met : (n : ℕ) (first head up down : List ℕ) (s t : ℕ) (forward backward : List ℕ) (best : ℕ) → IsShape n first head → s < n → IsClimbed n first head up s forward → IsClimbed n first head down t backward → IsMeeting forward backward best → IsLeastHill (LinkAt n first head up) (LinkAt n first head down) s t best
-IsLeastHill-met n first head up down s t forward backward best shape is_s f b m =
+pub IsLeastHill-met : (n : ℕ) (first head : List ℕ) (up down : Links) (s t : ℕ) (forward backward : List ℕ) (best : ℕ) → CanClimb n first head up → s < n → IsClimbed n up s forward → IsClimbed n down t backward → IsMeeting forward backward best → IsLeastHill (links_of n up) (links_of n down) s t best
+IsLeastHill-met n first head up down s t forward backward best can is_s f b m =
     let size = f.size in
     record {
       low = m.low;
       least = (λ h.
-          let inside : h.top < n = rise_inside n first head up h.rise s h.top shape is_s h.is_rise in
+          let inside : h.top < n = rise_inside n first head up h.rise s h.top can is_s h.is_rise in
           let rise = f.least h.rise h.top h.is_rise in
           let fall = b.least h.fall h.top h.is_fall in
           let low = m.low in

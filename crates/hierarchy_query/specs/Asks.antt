@@ -7,7 +7,7 @@ use Rattle.std.specs.Prelude.{ℕ, List}
 use Rattle.road_model.specs.Graph.{Graph}
 use Rattle.hierarchy_build.specs.declared.hierarchy.Hierarchy.{Hierarchy}
 use Rattle.hierarchy_build.specs.Hierarchy.{IsHierarchy}
-use Rattle.hierarchy_build.specs.Lengths.{LinkAt}
+use Rattle.hierarchy_build.specs.Links.{links_of}
 use Rattle.hierarchy_query.specs.Climbs.{IsBlank, CanClimb}
 
 pub record Questions : Type 0 where
@@ -15,10 +15,10 @@ pub record Questions : Type 0 where
   pub asked : ℕ
 
 abbrev pub up_links : ℕ → Hierarchy → ℕ → ℕ → ℕ → Type 0
-up_links n h = LinkAt n h.shape.value.first h.shape.value.head h.up
+up_links n h = links_of n h.up
 
 abbrev pub down_links : ℕ → Hierarchy → ℕ → ℕ → ℕ → Type 0
-down_links n h = LinkAt n h.shape.value.first h.shape.value.head h.down
+down_links n h = links_of n h.down
 
 pub record CanAsk (n : ℕ) (h : Hierarchy) : Type 0 where
   pub up : CanClimb n h.shape.value.first h.shape.value.head h.up

@@ -4,9 +4,9 @@ ghost use Rattle.std.specs.Prelude.{◌≡◌, ◌<◌, ◌≤◌, ◌⊎◌, �
 ghost use Rattle.hierarchy_build.specs.Runs.{IsShape};
 ghost use Rattle.hierarchy_build.specs.Lengths.{no_link};
 ghost use Rattle.hierarchy_query.specs.Asks.{CanAsk, up_links, down_links};
-ghost use Rattle.hierarchy_query.specs.Climbs.{IsBlank, CanClimb, IsRelaxed, IsClimbed, Above, IsLeastHill, CanMeet, IsMeeting};
+ghost use Rattle.hierarchy_query.specs.Climbs.{IsBlank, CanRelax, CanClimb, IsRelaxed, IsClimbed, Above, IsLeastHill, CanMeet, IsMeeting};
 
-use hierarchy_build::{Hierarchy, NO_LINK};
+use hierarchy_build::{Hierarchy, Links, NO_LINK};
 
 // Lowers a label, if the new one is less.
 #[inline(always)]
@@ -18,36 +18,34 @@ pub(crate) fn lower(labels: &mut [u64], at: usize, to: u64)
 }
 
 // Relaxes each link from a rank up.
-fn relax(first: &[u32], head: &[u32], lengths: &[u64], x: usize, labels: &mut [u64])
-    requires can { CanClimb (length labels.old) first.now head.now lengths.now }
+fn relax(links: &Links, x: usize, labels: &mut [u64])
+    requires can { CanRelax (length labels.old) links.now x }
     requires rank { x < length labels.old }
     requires low { slice_index labels.old x ≤ no_link }
-    ensures { IsRelaxed first.now head.now lengths.now x labels.old labels.new }
+    ensures { IsRelaxed links.now x labels.old labels.new }
 {
+    let first = links.first.as_slice();
+    let head = links.head.as_slice();
+    let lengths = links.length.as_slice();
     let label = labels[x];
     for k in first[x] as usize..first[x + 1] as usize {
         lower(labels, head[k] as usize, label + lengths[k]);
     }
 }
 
-/// The labels of the ranks above `s`, and how many ranks were passed.
-pub(crate) fn climb(
-    first: &[u32],
-    head: &[u32],
-    lengths: &[u64],
-    s: usize,
-    labels: &mut [u64],
-) -> u64
-    requires can { CanClimb (length labels.old) first.now head.now lengths.now }
+/// The labels of the ranks above `s` by these links, and how many ranks were passed. The way up is that of the
+/// runs of the shape, `first` and `head`.
+pub(crate) fn climb(first: &[u32], head: &[u32], links: &Links, s: usize, labels: &mut [u64]) -> u64
+    requires can { CanClimb (length labels.old) first.now head.now links.now }
     requires rank { s < length labels.old }
     requires blank { IsBlank (length labels.old) labels.old }
-    ensures { IsClimbed (length labels.old) first.now head.now lengths.now s labels.new }
+    ensures { IsClimbed (length labels.old) links.now s labels.new }
 {
     labels[s] = 0;
     let mut passed = 1u64;
     let mut x = s;
     'up: while first[x] < first[x + 1] {
-        relax(first, head, lengths, x, labels);
+        relax(links, x, labels);
         x = head[first[x] as usize] as usize;
         passed += 1;
     }
@@ -104,8 +102,8 @@ pub(crate) fn least_hill(
     let shape = &hierarchy.shape;
     let first = shape.first.as_slice();
     let head = shape.head.as_slice();
-    let rising = climb(first, head, hierarchy.up.as_slice(), s, forward);
-    let falling = climb(first, head, hierarchy.down.as_slice(), t, backward);
+    let rising = climb(first, head, &hierarchy.up, s, forward);
+    let falling = climb(first, head, &hierarchy.down, t, backward);
     let best = meet(first, head, forward, backward, s);
     clear(first, head, s, forward);
     clear(first, head, t, backward);

@@ -1,14 +1,21 @@
-use Rattle.std.proofs.Common.{◌<◌, ◌+◌, length, slice_index, arith}
+use Rattle.std.proofs.Common.{◌<◌, ◌+◌, ℕ, length, slice_index, sym, subst, arith}
 use Rattle.hierarchy_build.specs.Runs.{InSpan}
-use Rattle.hierarchy_query.proofs.Climbs.{Climbing-start, Climbing-relaxed, IsClimbed-top}
+use Rattle.hierarchy_query.specs.Climbs.{CanRelax}
+use Rattle.hierarchy_query.proofs.Climbs.{CanRelax-climb, Climbing-start, Climbing-relaxed, IsClimbed-top}
 use Rattle.hierarchy_query.proofs.climb.climb.Goals as goal
 
 pub up-init : goal.up-init
 up-init c =
     record {
-      climbing = Climbing-start (length c.args.labels.now) c.args.first.now c.args.head.now c.args.lengths.now c.args.s c.args.labels.now c.requires.rank c.requires.blank;
+      climbing = Climbing-start (length c.args.labels.now) c.args.first.now c.args.head.now c.args.links.now c.args.s c.args.labels.now c.requires.rank c.requires.blank;
       few = omega arith;
     }
+
+pub relax-requires-clause-can : goal.relax-requires-clause-can
+relax-requires-clause-can c =
+    let climbing = c.up.invariant.climbing in
+    subst (λ (n : ℕ). CanRelax n c.args.links.now c.up.x) (sym climbing.size)
+    (CanRelax-climb (length c.args.labels.now) c.args.first.now c.args.head.now c.args.links.now c.up.x c.requires.can climbing.inside)
 
 pub up-preserved : goal.up-preserved
 up-preserved c =
@@ -17,10 +24,10 @@ up-preserved c =
     let above : c.up.x < slice_index c.args.head.now (slice_index c.args.first.now c.up.x) = c.requires.can.shape.above c.up.x (slice_index c.args.first.now c.up.x) c.up.invariant.climbing.inside at in
     let few = c.up.invariant.few in
     record {
-      climbing = Climbing-relaxed (length c.args.labels.now) c.args.first.now c.args.head.now c.args.lengths.now c.args.s c.up.x c.up.labels c.relax.new.labels c.requires.can some c.up.invariant.climbing c.relax.ensures;
+      climbing = Climbing-relaxed (length c.args.labels.now) c.args.first.now c.args.head.now c.args.links.now c.args.s c.up.x c.up.labels c.relax.new.labels c.requires.can some c.up.invariant.climbing c.relax.ensures;
       few = omega arith;
     }
 
 pub returns : goal.returns
 returns c =
-    IsClimbed-top (length c.args.labels.now) c.args.first.now c.args.head.now c.args.lengths.now c.args.s c.up.x c.up.labels (omega (arith, c.up-test.false)) c.up.invariant.climbing
+    IsClimbed-top (length c.args.labels.now) c.args.first.now c.args.head.now c.args.links.now c.args.s c.up.x c.up.labels c.requires.can (omega (arith, c.up-test.false)) c.up.invariant.climbing

@@ -4,7 +4,7 @@ use Rattle.hierarchy_query.proofs.climb.climb.Given as goal
 
 abbrev pub invariant-up : goal.invariant-up
 invariant-up l = record {
-  climbing : Climbing (length l.fn.labels) l.first l.head l.lengths l.s l.x l.labels;
+  climbing : Climbing (length l.fn.labels) l.first l.head l.links l.s l.x l.labels;
   few : l.passed ≤ l.x + 1;
 }
 

@@ -2,4 +2,4 @@ use Rattle.hierarchy_query.proofs.Climbs.{RelaxedSoFar}
 use Rattle.hierarchy_query.proofs.climb.relax.Given as goal
 
 abbrev pub invariant-loop-k : goal.invariant-loop-k
-invariant-loop-k l = RelaxedSoFar l.first l.head l.lengths l.x l.k l.fn.labels l.labels
+invariant-loop-k l = RelaxedSoFar l.links l.x l.k l.fn.labels l.labels
