@@ -1,3 +1,4 @@
 pub mod Climbs
 pub mod Asks
 pub mod Tables
+pub mod Engines

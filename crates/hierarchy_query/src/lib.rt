@@ -1,10 +1,12 @@
 //! Distances of a road graph by its hierarchy.
 #![tactic(auto)]
 
+mod adaptive;
 mod climb;
 mod oracle;
 mod tables;
 
+pub use adaptive::AdaptiveOracle;
 pub use oracle::HierarchyOracle;
 pub use tables::{DistanceList, one_to_many};
 

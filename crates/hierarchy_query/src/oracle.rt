@@ -7,6 +7,7 @@ use hierarchy_build::{Hierarchy, NO_LINK};
 use road_model::{NoMemory, Oracle, Vertex};
 use std::alloc::Global;
 use std::marker::Model;
+use std::sync::Arc;
 
 /// An oracle that answers each question by two climbs in a hierarchy.
 ///
@@ -14,7 +15,7 @@ use std::marker::Model;
 #[derive(Drop)]
 pub struct HierarchyOracle<'a> {
     star: &'a Star,
-    hierarchy: &'a Hierarchy,
+    hierarchy: Arc<Hierarchy, Global>,
     forward: Vec<u64>,
     backward: Vec<u64>,
     asked: u64,
@@ -28,7 +29,7 @@ impl<'a> Model for HierarchyOracle<'a> {
 
     ghost view = { λ o. record { graph = o.star.now; asked = o.asked } };
 
-    ghost invariant = { λ o. IsReady o.star.now o.hierarchy.now o.forward.items o.backward.items };
+    ghost invariant = { λ o. IsReady o.star.now o.hierarchy.value o.forward.items o.backward.items };
 }
 
 impl<'a> HierarchyOracle<'a> {
@@ -36,9 +37,9 @@ impl<'a> HierarchyOracle<'a> {
     pub fn new(
         alloc: Global,
         star: &'a Star,
-        hierarchy: &'a Hierarchy,
+        hierarchy: Arc<Hierarchy, Global>,
     ) -> Result<HierarchyOracle<'a>, NoMemory>
-        requires { IsHierarchy star.now hierarchy.now }
+        requires { IsHierarchy star.now hierarchy.value }
         ensures { IfOk result (λ o. o ≡ record { graph = star.now; asked = 0 }) }
     {
         let ranks = hierarchy.shape.order.len();
@@ -61,16 +62,11 @@ impl<'a> Oracle for HierarchyOracle<'a> {
     ghost asked = { λ o. o.asked };
 
     fn distance(&mut self, from: Vertex, to: Vertex) -> Result<Option<u64>, NoMemory> {
-        let shape = &self.hierarchy.shape;
+        let hierarchy: &Hierarchy = &self.hierarchy;
+        let shape = &hierarchy.shape;
         let s = shape.rank.as_slice()[from.number() as usize] as usize;
         let t = shape.rank.as_slice()[to.number() as usize] as usize;
-        let (best, passed) = least_hill(
-            self.hierarchy,
-            s,
-            t,
-            &mut self.forward,
-            &mut self.backward,
-        );
+        let (best, passed) = least_hill(hierarchy, s, t, &mut self.forward, &mut self.backward);
         self.settled = self.settled.saturating_add(passed);
         self.asked = self.asked.saturating_add(1);
         if best >= NO_LINK {

@@ -8,6 +8,7 @@ use forward_star::Star;
 use hierarchy_build::Hierarchy;
 use road_model::{Items, NoMemory, Oracle, Vertex};
 use std::alloc::Global;
+use std::sync::Arc;
 
 /// Distances, in the order that the value's owner states; none where no walk leads.
 pub type DistanceList = Items<Option<u64>>;
@@ -16,11 +17,11 @@ pub type DistanceList = Items<Option<u64>>;
 pub fn one_to_many(
     alloc: Global,
     star: &Star,
-    hierarchy: &Hierarchy,
+    hierarchy: Arc<Hierarchy, Global>,
     from: Vertex,
     targets: &[Vertex],
 ) -> Result<DistanceList, NoMemory>
-    requires hierarchy { IsHierarchy star.now hierarchy.now }
+    requires hierarchy { IsHierarchy star.now hierarchy.value }
     requires from { IsVertex star.now.vertices from }
     requires targets { All (IsVertex star.now.vertices) targets.now }
     ensures { IfOk result (λ ds. AreDists star.now from targets.now ds) }

@@ -1,9 +1,13 @@
+ghost use Rattle.std.specs.Prelude.{All, IfOk, ◌≡◌};
+ghost use Rattle.road_model.specs.Graph.{IsVertex};
+
 use super::*;
-use contraction_order::order_by;
+use contraction_order::{order_by, order_of};
 use forward_star::Star;
 use hierarchy_build::contract;
-use road_model::{ArcRow, ArcRows, GraphFile, Oracle, Vertex};
+use road_model::{ArcRow, ArcRows, GraphFile, Oracle, Vertex, VertexList};
 use std::alloc::Global;
+use std::sync::Arc;
 use std::test::Fail;
 
 // A graph of these arcs (tail, head, length); a row outside the limits fails the test.
@@ -27,20 +31,38 @@ fn graph_of(alloc: Global, vertices: u32, arcs: &[(u32, u32, u64)]) -> Result<Gr
     Ok(GraphFile::new(vertices, rows))
 }
 
+type Arcs = &'static [(u32, u32, u64)];
+
 // Six vertices with one-way, parallel and longer arcs, and a loop; nothing leads to 5.
+const MIXED: Arcs = &[
+    (1, 2, 10),
+    (2, 6, 10),
+    (1, 3, 11),
+    (3, 4, 6),
+    (4, 6, 5),
+    (2, 3, 1),
+    (2, 3, 9),
+    (3, 3, 2),
+    (5, 1, 4294967295),
+];
+
+// Three leaves round vertex 1.
+const LEAVES: Arcs = &[
+    (1, 2, 1),
+    (2, 1, 1),
+    (1, 3, 2),
+    (3, 1, 2),
+    (1, 4, 3),
+    (4, 1, 3),
+];
+
+const PATH: Arcs = &[(1, 2, 5), (2, 3, 4294967295), (3, 4, 2)];
+
+// All lengths are equal, and two ways from 1 to 4.
+const SQUARE: Arcs = &[(1, 2, 1), (1, 3, 1), (2, 4, 1), (3, 4, 1), (4, 1, 1)];
+
 fn star_of(alloc: Global) -> Result<Star, Fail> {
-    let arcs = [
-        (1, 2, 10),
-        (2, 6, 10),
-        (1, 3, 11),
-        (3, 4, 6),
-        (4, 6, 5),
-        (2, 3, 1),
-        (2, 3, 9),
-        (3, 3, 2),
-        (5, 1, 4294967295),
-    ];
-    Ok(Star::build(alloc, graph_of(alloc, 6, &arcs)?)?)
+    Ok(Star::build(alloc, graph_of(alloc, 6, MIXED)?)?)
 }
 
 // The distances of these pairs, where the vertices of these numbers are contracted first.
@@ -53,7 +75,7 @@ fn distances_of(
     let vertices = star.graph().vertices();
     let order = order_by(alloc, vertices, wishes)?;
     let hierarchy = contract(alloc, star, order)?;
-    let mut oracle = HierarchyOracle::new(alloc, star, &hierarchy)?;
+    let mut oracle = HierarchyOracle::new(alloc, star, Arc::new(alloc, hierarchy)?)?;
     let mut distances = Vec::new(alloc);
     for pair in pairs {
         let (from, to) = *pair;
@@ -82,5 +104,124 @@ fn answers_where_3_is_contracted_first(rt: HostRuntime) -> Result<(), Fail> {
     let wanted = [Some(7), None, Some(20), Some(0), Some(4294967315), Some(11)];
     let distances = distances_of(rt.alloc(), &star, &[3, 1, 4], &pairs)?;
     assert_eq!(rt; distances.as_slice(), wanted.as_slice());
+    Ok(())
+}
+
+// The vertices of these numbers; a number that is none of a graph of so many vertices fails the test.
+fn vertices_of(alloc: Global, vertices: u32, numbers: &[u32]) -> Result<VertexList, Fail>
+    ensures { IfOk result (λ vs. All (IsVertex vertices) vs) }
+{
+    let mut list = VertexList::new(alloc);
+    for number in numbers {
+        if *number == 0 || *number > vertices {
+            return Err("no such vertex".into());
+        }
+        list.push(Vertex(*number))?;
+    }
+    Ok(list)
+}
+
+// The distances from one vertex to others, in one call.
+fn listed(alloc: Global, star: &Star, from: u32, numbers: &[u32]) -> Result<DistanceList, Fail> {
+    let vertices = star.graph().vertices();
+    if from == 0 || from > vertices {
+        return Err("no such start".into());
+    }
+    let targets = vertices_of(alloc, vertices, numbers)?;
+    let order = order_of(alloc, star)?;
+    let hierarchy = Arc::new(alloc, contract(alloc, star, order)?)?;
+    let list = one_to_many(alloc, star, hierarchy, Vertex(from), targets.as_slice())?;
+    Ok(list)
+}
+
+// The same one after another.
+fn asked(
+    alloc: Global,
+    star: &Star,
+    oracle: &mut AdaptiveOracle,
+    from: u32,
+    numbers: &[u32],
+) -> Result<DistanceList, Fail>
+    requires { oracle.old.graph ≡ star.now }
+    ensures { oracle.new.graph ≡ star.now }
+{
+    let vertices = star.graph().vertices();
+    if from == 0 || from > vertices {
+        return Err("no such start".into());
+    }
+    let mut distances = DistanceList::new(alloc);
+    for number in numbers {
+        if *number == 0 || *number > vertices {
+            return Err("no such target".into());
+        }
+        distances.push(oracle.distance(Vertex(from), Vertex(*number))?)?;
+    }
+    Ok(distances)
+}
+
+// Whether a hierarchy answers after many rounds of the same questions; a wrong answer fails the test.
+fn changes_over(
+    alloc: Global,
+    star: &Star,
+    from: u32,
+    numbers: &[u32],
+    wanted: &[Option<u64>],
+) -> Result<bool, Fail> {
+    let mut oracle = AdaptiveOracle::new(alloc, star)?;
+    if oracle.has_hierarchy() {
+        return Err("a hierarchy before the first question".into());
+    }
+    'rounds: for _ in 0..150 {
+        let distances = asked(alloc, star, &mut oracle, from, numbers)?;
+        if distances.as_slice() != wanted {
+            return Err("another answer".into());
+        }
+    }
+    Ok(oracle.has_hierarchy())
+}
+
+#[test]
+fn answers_the_same_before_and_after_the_change(rt: HostRuntime) -> Result<(), Fail> {
+    // a graph of so many vertices; a start; targets; the distances
+    let rows: [(u32, Arcs, u32, &[u32], &[Option<u64>]); 6] = [
+        (
+            6,
+            MIXED,
+            2,
+            &[4, 5, 4, 6, 2, 1],
+            &[Some(7), None, Some(7), Some(10), Some(0), None],
+        ),
+        (3, &[], 2, &[1, 2, 3], &[None, Some(0), None]),
+        (1, &[], 1, &[1], &[Some(0)]),
+        (
+            4,
+            LEAVES,
+            3,
+            &[2, 3, 4, 1],
+            &[Some(3), Some(0), Some(5), Some(2)],
+        ),
+        (
+            4,
+            PATH,
+            2,
+            &[1, 2, 3, 4],
+            &[None, Some(0), Some(4294967295), Some(4294967297)],
+        ),
+        (
+            4,
+            SQUARE,
+            1,
+            &[4, 2, 3, 1],
+            &[Some(2), Some(1), Some(1), Some(0)],
+        ),
+    ];
+    for (vertices, arcs, from, targets, wanted) in rows {
+        let star = Star::build(rt.alloc(), graph_of(rt.alloc(), vertices, arcs)?)?;
+        let distances = listed(rt.alloc(), &star, from, targets)?;
+        assert_eq!(rt; distances.as_slice(), wanted);
+        // from a vertex to itself no search settles any
+        let changed = changes_over(rt.alloc(), &star, from, targets, wanted)?;
+        assert_eq!(rt; changed, vertices > 1);
+    }
     Ok(())
 }
