@@ -21,7 +21,7 @@ use std::alloc::Global;
 /// that is handed in and kept for the next query. That has 80 bytes a vertex, which are laid out once: a plan takes the
 /// time of what its searches visit, and beside the memory 4 bytes an arc of each path that is listed. What a path
 /// shares is told by sums along the trees, and most that fail a test by the trees alone; each path that is left is put
-/// to the oracle once. An `Err` leaves the oracle as good as before, and a memory that is laid out anew.
+/// to the oracle once. An `Err` leaves the oracle as good as before, and at worst an empty memory.
 pub fn plan_in<O: Oracle>(
     alloc: Global,
     memory: &mut PlanMemory,
