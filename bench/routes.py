@@ -1,14 +1,17 @@
 #!/usr/bin/env python3
 """Measures `route` lines on whole networks, beside a plain program of the same job where one is at hand.
 
-python3 bench/routes.py [--plain PROGRAM] [--pairs N] [--rounds N] [GRAPH..]
+python3 bench/routes.py [--plain PROGRAM] [--pairs N] [--rounds N] [--rank K] [GRAPH..]
 
 A graph is a file, or `grid:W:H` (made by `road make 7 W H`), or `road:SIDE` (bench/network.py 1 SIDE). Each round runs
 `answer` over the graph with random pairs and without a request, and takes the difference; the plain program, which takes the
-same words, is run in turn, and the bytes of both are compared. Times are means over the pairs, of the quickest round; the
-spread is the slowest round's by the quickest. Memory is the peak of the resident set.
+same words, is run in turn, and the bytes of both are compared. With a rank the targets are near: from each random source the
+2^K-th vertex in the order of distance. Times are means over the pairs, of the quickest round; the spread is the slowest
+round's by the quickest. Memory is the peak of the resident set.
 """
 import argparse
+import array
+import heapq
 import os
 import random
 import resource
@@ -32,10 +35,48 @@ def graph_file(name):
     return name
 
 
-def requests_of(path, pairs):
+def arcs_of(path):
+    """The heads and lengths of the arcs out of each vertex, flat; the arcs of vertex v end before place first[v + 1]."""
+    tails, heads, lengths = array.array("I"), array.array("I"), array.array("I")
+    with open(path, "rb") as file:
+        for line in file:
+            if line.startswith(b"a"):
+                _word, tail, head, length = line.split()
+                tails.append(int(tail))
+                heads.append(int(head))
+                lengths.append(int(length))
+    first = array.array("I", bytes(4 * (figures.vertices_of(path) + 2)))
+    for tail in tails:
+        first[tail + 1] += 1
+    for v in range(1, len(first)):
+        first[v] += first[v - 1]
+    places, steps = array.array("I", first), [None] * len(tails)
+    for tail, head, length in zip(tails, heads, lengths):
+        steps[places[tail]] = (head, length)
+        places[tail] += 1
+    return first, steps
+
+
+def settled(first, steps, source, count):
+    """The vertex that Dijkstra's algorithm settles so many vertices after the source; the last one where there are fewer."""
+    labels, queue, last = {}, [(0, source)], source
+    while queue and count >= 0:
+        distance, at = heapq.heappop(queue)
+        if at not in labels:
+            labels[at], last, count = distance, at, count - 1
+            for head, length in steps[first[at] : first[at + 1]]:
+                if head not in labels:
+                    heapq.heappush(queue, (distance + length, head))
+    return last
+
+
+def requests_of(path, pairs, rank):
     chance, vertices = random.Random(5), figures.vertices_of(path)
-    lines = ["route %d %d" % (chance.randint(1, vertices), chance.randint(1, vertices)) for _ in range(pairs)]
-    return "".join(line + "\n" for line in lines).encode()
+    ends = [(chance.randint(1, vertices), chance.randint(1, vertices)) for _ in range(pairs)]
+    if rank is not None:
+        first, steps = arcs_of(path)
+        ends = [(source, settled(first, steps, source, 2**rank)) for source, _target in ends]
+    return "".join("route %d %d\n" % pair for pair in ends).encode()
 
 
 def run(words, text):
@@ -60,12 +101,13 @@ def main():
     words.add_argument("--plain", help="a program that takes the same words")
     words.add_argument("--pairs", type=int, default=20)
     words.add_argument("--rounds", type=int, default=3)
+    words.add_argument("--rank", type=int, help="targets that are the 2^RANK-th vertex from their source")
     given = words.parse_args()
     print("| graph | vertices | road, ms | spread | plain, ms | ratio | memory, MB |")
     print("|---|---|---|---|---|---|---|")
     for name in given.graphs:
         path = graph_file(name)
-        text = requests_of(path, given.pairs)
+        text = requests_of(path, given.pairs, given.rank)
         times, output = milliseconds([program.BUILT, "answer", path], text, given.pairs, given.rounds)
         memory = figures.peak([program.BUILT, "answer", path], text)
         row = [os.path.basename(name), figures.vertices_of(path), "%.2f" % min(times), "%.2f" % (max(times) / min(times))]
