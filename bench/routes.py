@@ -1,23 +1,17 @@
 #!/usr/bin/env python3
 """Measures `route` lines on whole networks, beside a plain program of the same job where one is at hand.
 
-python3 bench/routes.py [--plain PROGRAM] [--pairs N] [--rounds N] [GRAPH..]
-
 A graph is a file, or `grid:W:H` (made by `road make 7 W H`), or `road:SIDE` (bench/network.py 1 SIDE). Each round runs
 `answer` over the graph with random pairs and without a request, and takes the difference; the plain program, which takes the
 same words, is run in turn, and the bytes of both are compared. Times are means over the pairs, of the quickest round; the
 spread is the slowest round's by the quickest. Memory is the peak of the resident set.
 """
-import argparse
 import os
-import random
-import resource
-import subprocess
 import sys
 import time
 
+import drawing
 import figures
-import plain
 import program
 
 USUAL = ["grid:60:60", "grid:300:300", "road:100", "road:316"]
@@ -32,16 +26,10 @@ def graph_file(name):
     return name
 
 
-def requests_of(path, pairs):
-    chance, vertices = random.Random(5), figures.vertices_of(path)
-    lines = ["route %d %d" % (chance.randint(1, vertices), chance.randint(1, vertices)) for _ in range(pairs)]
-    return "".join(line + "\n" for line in lines).encode()
-
-
 def run(words, text):
     begin = time.monotonic()
-    done = subprocess.run(words, input=text, stdout=subprocess.PIPE, check=True)
-    return time.monotonic() - begin, done.stdout
+    _status, output = program.run(words, text, check=True)
+    return time.monotonic() - begin, output
 
 
 def milliseconds(words, text, pairs, rounds):
@@ -55,7 +43,7 @@ def milliseconds(words, text, pairs, rounds):
 
 
 def main():
-    words = argparse.ArgumentParser(description=__doc__.splitlines()[0])
+    words = program.parser(__doc__)
     words.add_argument("graphs", nargs="*", default=USUAL)
     words.add_argument("--plain", help="a program that takes the same words")
     words.add_argument("--pairs", type=int, default=20)
@@ -65,9 +53,9 @@ def main():
     print("|---|---|---|---|---|---|---|")
     for name in given.graphs:
         path = graph_file(name)
-        text = requests_of(path, given.pairs)
-        times, output = milliseconds([program.BUILT, "answer", path], text, given.pairs, given.rounds)
-        memory = figures.peak([program.BUILT, "answer", path], text)
+        text = drawing.requests("route", 5, given.pairs, figures.vertices_of(path))
+        times, output = milliseconds([program.built(), "answer", path], text, given.pairs, given.rounds)
+        memory = figures.peak([program.built(), "answer", path], text)
         row = [os.path.basename(name), figures.vertices_of(path), "%.2f" % min(times), "%.2f" % (max(times) / min(times))]
         if given.plain:
             others, wanted = milliseconds([given.plain, "answer", path], text, given.pairs, given.rounds)
