@@ -1,8 +1,6 @@
 #!/usr/bin/env python3
 """Compares the commands over files and grids with the plain script for grids and with the definitions, byte for byte.
 
-python3 bench/compare_grids.py [--large]
-
 `road make` is compared with bench/grid.py, `road check` and `road print` on grids and on the larger example, and `road
 survey` with the definitions on small grids. With --large a grid of a million vertices is made too. It ends with 1 where a
 byte differs, and leaves the two texts in bench/out (grid.expected, grid.replied).
@@ -11,6 +9,7 @@ import os
 import random
 import sys
 
+import drawing
 import grid
 import plain
 import program
@@ -41,7 +40,7 @@ def demand_made(seed, width, height):
 
 
 def survey(seed, width, height, queries):
-    source = grid.words(seed)
+    source = drawing.words(seed)
     graph = plain.Graph(width * height, list(grid.arcs(source, width, height)))
     none, lengths = 0, []
     for _ in range(queries):
@@ -56,21 +55,25 @@ def survey(seed, width, height, queries):
 
 
 def main():
+    words = program.parser(__doc__)
+    words.add_argument("--large", action="store_true", help="make a grid of a million vertices too")
+    given = words.parse_args()
     city = os.path.join(program.TOP, "examples", "city.gr")
     graph = plain.read_graph(city)
     demand_read(city, graph.vertices, len(graph.arcs), plain.graph_text(graph))
     chance = random.Random(1)
     grids = [(0, 2, 1), (0, 1, 1), (7, 6, 6), (LARGEST_SEED, 1, 9), (5, 9, 1), (3, 100, 70)]
     grids += [(chance.randint(0, LARGEST_SEED), chance.randint(1, 30), chance.randint(1, 30)) for _ in range(10)]
-    if "--large" in sys.argv[1:]:
+    if given.large:
         grids.append((7, 1000, 1000))
-    for words in grids:
-        demand_made(*words)
+    for each in grids:
+        demand_made(*each)
     surveys = [(7, 6, 6, 5), (0, 2, 1, 1), (0, 1, 1, 3), (LARGEST_SEED, 8, 1, 4)]
     surveys += [tuple(chance.randint(1, most) for most in (LARGEST_SEED, 8, 8, 8)) for _ in range(15)]
-    for words in surveys:
-        demand(["survey", *words], survey(*words).encode())
+    for each in surveys:
+        demand(["survey", *each], survey(*each).encode())
     print("%d grids, %d surveys: the same bytes" % (len(grids), len(surveys)))
 
 
-main()
+if __name__ == "__main__":
+    main()

@@ -1,28 +1,26 @@
 #!/usr/bin/env python3
-"""Compares the replies of `road answer` to `optimum` lines of random pairs with the definitions, byte for byte.
-
-python3 bench/compare_optima.py [GRAPH [COUNT]]
-"""
+"""Compares the replies to `optimum` lines of random pairs with the definitions, byte for byte."""
 import os
-import random
 import sys
 
+import drawing
 import plain
 import program
 
 
 def main():
-    path = sys.argv[1] if len(sys.argv) > 1 else os.path.join(program.TOP, "examples", "city.gr")
-    count = int(sys.argv[2]) if len(sys.argv) > 2 else 1000
-    graph = plain.read_graph(path)
-    chance = random.Random(1)
-    pairs = [(chance.randint(1, graph.vertices), chance.randint(1, graph.vertices)) for _ in range(count)]
-    requests = "".join("optimum %d %d\n" % pair for pair in pairs).encode()
-    status, output = program.road("answer", path, text=requests)
+    words = program.parser(__doc__)
+    words.add_argument("graph", nargs="?", default=os.path.join(program.TOP, "examples", "city.gr"))
+    words.add_argument("count", nargs="?", type=int, default=1000)
+    given = words.parse_args()
+    graph = plain.read_graph(given.graph)
+    requests = drawing.requests("optimum", 1, given.count, graph.vertices)
+    status, output = program.road("answer", given.graph, text=requests)
     if status != 0 or output != plain.replies(graph, requests):
         print("different: status %d" % status)
         sys.exit(1)
-    print("%d pairs on %d vertices and %d arcs: the same bytes" % (count, graph.vertices, len(graph.arcs)))
+    print("%d pairs on %d vertices and %d arcs: the same bytes" % (given.count, graph.vertices, len(graph.arcs)))
 
 
-main()
+if __name__ == "__main__":
+    main()

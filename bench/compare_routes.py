@@ -1,8 +1,6 @@
 #!/usr/bin/env python3
 """Compares `road answer` with the definitions, computed plainly, on random small graphs, byte for byte.
 
-python3 bench/compare_routes.py [CASES [SEED]]
-
 A case is a small graph and a script of requests of every kind over it, good ones and faulty ones (random_cases.py). It
 ends with 1 where a byte differs, and leaves that case in bench/out: case.gr, case.requests, and the replies by the
 definitions (case.expected) and by the program (case.replies).
@@ -38,7 +36,7 @@ def tell_difference(graph, text, output):
             print("request  %r\nexpected %r\nreplied  %r" % (line[:200], reply, output[place : place + len(reply) + 80]))
             return
         place += len(reply)
-    print("behind the last reply: %r" % output[place : place + 80])
+    print("after the last reply: %r" % output[place : place + 80])
 
 
 def count(counts, line, reply):
@@ -59,11 +57,13 @@ def tell(counts, name, words):
 
 
 def main():
-    cases = int(sys.argv[1]) if len(sys.argv) > 1 else 300
-    seed = int(sys.argv[2]) if len(sys.argv) > 2 else 1
-    chance = random.Random(seed)
+    words = program.parser(__doc__)
+    words.add_argument("cases", nargs="?", type=int, default=300)
+    words.add_argument("seed", nargs="?", type=int, default=1)
+    given = words.parse_args()
+    chance = random.Random(given.seed)
     counts = collections.Counter()
-    for case in range(cases):
+    for case in range(given.cases):
         graph = random_cases.random_graph(chance)
         text = random_cases.Script(chance, graph).text()
         path = program.save("case.gr", plain.graph_text(graph))
@@ -74,17 +74,18 @@ def main():
         if status != 0 or output != expected:
             program.save("case.expected", expected)
             program.save("case.replies", output)
-            print("case %d of seed %d differs, and is in bench/out; status %d" % (case, seed, status))
+            print("case %d of seed %d differs, and is in bench/out; status %d" % (case, given.seed, status))
             tell_difference(graph, text, output)
             sys.exit(1)
         for line, reply in replies:
             count(counts, line, reply)
-    print("%d graphs, %d requests: the same bytes" % (cases, sum(counts["asked", word] for word in WORDS)))
+    print("%d graphs, %d requests: the same bytes" % (given.cases, sum(counts["asked", word] for word in WORDS)))
     print("requests: " + tell(counts, "asked", WORDS))
     shown = counts["pages"], counts["more"], counts["route"], counts["none"]
-    print("pages: %d, with more behind: %d, alternatives: %d, no path: %d" % shown)
+    print("pages: %d, with more after: %d, alternatives: %d, no path: %d" % shown)
     print("verdicts: " + tell(counts, "verdict", VERDICTS))
     print("errors: " + tell(counts, "error", ERRORS))
 
 
-main()
+if __name__ == "__main__":
+    main()

@@ -1,22 +1,20 @@
 #!/usr/bin/env python3
 """Measures the program against the plain Rust yardstick, with the same words on the same files, in turn.
 
-python3 bench/figures.py [files|optima] [ROUNDS]
-
 files: `check` and `print` of a grid and of a road-like network, each of more than 100 MB, and `make` of a grid of a
 million vertices. optima: `answer` with no request and with 200 random pairs, on grids of 60, 300 and 1000 a side and on a
-road-like network of about a million vertices. Without a word it measures both. It builds the yardstick with rustc, makes
+road-like network of about a million vertices. It builds the yardstick with rustc, makes
 the files in bench/out, and compares the bytes of both programs. Times are the medians of the rounds, 5 where no number is
 given; the spread is the greatest time of a run by its least. Memory is the peak of the resident set; less than some 14 MB
 isn't told apart.
 """
 import os
-import random
 import statistics
 import subprocess
 import sys
 import time
 
+import drawing
 import program
 
 PAIRS = 200
@@ -24,7 +22,8 @@ FILE_SIDE = 1200
 MADE_SIDE = 1000
 ANSWER_SIDES = (60, 300, 1000)
 PEAK = (
-    "import resource, subprocess, sys; subprocess.run(sys.argv[1:], stdin=sys.stdin, stdout=subprocess.DEVNULL); "
+    "import resource, subprocess, sys; "
+    "subprocess.run(sys.argv[2:], stdin=sys.stdin, stdout=subprocess.DEVNULL, check=True, timeout=int(sys.argv[1])); "
     "print(resource.getrusage(resource.RUSAGE_CHILDREN).ru_maxrss)"
 )
 
@@ -32,7 +31,7 @@ PEAK = (
 def build_yardstick():
     path = program.out_file("yardstick")
     source = os.path.join(program.BENCH, "yardstick", "main.rs")
-    subprocess.run(["rustc", "-O", "-C", "target-cpu=x86-64-v2", "-o", path, source], check=True)
+    program.run(["rustc", "-O", "-C", "target-cpu=x86-64-v2", "-o", path, source], check=True)
     return path
 
 
@@ -40,7 +39,7 @@ def network_file(seed, side):
     path = program.out_file("network-%d-%d.gr" % (seed, side))
     with open(path, "wb") as file:
         script = os.path.join(program.BENCH, "network.py")
-        subprocess.run([sys.executable, script, str(seed), str(side)], stdout=file, check=True)
+        program.run([sys.executable, script, str(seed), str(side)], stdout=file, check=True)
     return path
 
 
@@ -55,7 +54,7 @@ def megabytes(path):
 
 def seconds(words, text):
     begin = time.monotonic()
-    subprocess.run(words, input=text, stdout=subprocess.DEVNULL, check=True)
+    program.run(words, text, stdout=subprocess.DEVNULL, check=True)
     return time.monotonic() - begin
 
 
@@ -74,14 +73,13 @@ def spread(times):
 
 def peak(words, text):
     """In megabytes."""
-    done = subprocess.run([sys.executable, "-c", PEAK, *words], input=text, stdout=subprocess.PIPE, check=True)
-    return int(done.stdout) / 1024
+    _status, output = program.run([sys.executable, "-c", PEAK, str(program.SECONDS), *words], text, check=True)
+    return int(output) / 1024
 
 
 def same_output(programs, words, text=b""):
     """The length of the output, which must be the same."""
-    runs = [subprocess.run([path, *words], input=text, stdout=subprocess.PIPE, check=True) for path in programs.values()]
-    road, other = (run.stdout for run in runs)
+    road, other = (program.run([path, *words], text, check=True)[1] for path in programs.values())
     if road != other:
         sys.exit("the outputs of %s differ" % " ".join(words))
     return len(road)
@@ -114,9 +112,7 @@ def tell_optima(programs, rounds):
     print("|---|---|---|---|---|---|---|---|---|---|---|---|")
     for name, path in files.items():
         size, vertices = megabytes(path), vertices_of(path)
-        chance = random.Random(7)
-        pairs = [(chance.randint(1, vertices), chance.randint(1, vertices)) for _ in range(PAIRS)]
-        requests = "".join("optimum %d %d\n" % pair for pair in pairs).encode()
+        requests = drawing.requests("optimum", 7, PAIRS, vertices)
         same_output(programs, ["answer", path], requests)
         loads = {"read": b"", "all": requests}
         jobs = {(p, load): ([programs[p], "answer", path], text) for load, text in loads.items() for p in programs}
@@ -132,12 +128,13 @@ def tell_optima(programs, rounds):
 
 def main():
     tables = {"files": tell_files, "optima": tell_optima}
-    words = sys.argv[1:]
-    chosen = [words.pop(0)] if words and words[0] in tables else list(tables)
-    rounds = int(words[0]) if words else 5
-    programs = {"road": program.BUILT, "plain": build_yardstick()}
-    for name in chosen:
-        tables[name](programs, rounds)
+    words = program.parser(__doc__)
+    words.add_argument("table", nargs="?", choices=["both", *tables], default="both")
+    words.add_argument("rounds", nargs="?", type=int, default=5)
+    given = words.parse_args()
+    programs = {"road": program.built(), "plain": build_yardstick()}
+    for name in tables if given.table == "both" else [given.table]:
+        tables[name](programs, given.rounds)
 
 
 if __name__ == "__main__":

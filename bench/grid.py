@@ -1,5 +1,5 @@
 #!/usr/bin/env python3
-"""Writes the generated grid as a .gr file: python3 bench/grid.py SEED WIDTH HEIGHT > FILE
+"""Writes the generated grid as a .gr file to the standard output.
 
 Vertex r * WIDTH + c + 1 stands in row r and column c. By rising vertex, and to the right before down, each pair of
 neighbours gets an arc there and one back. Each arc takes the next word of SplitMix64 and has the length
@@ -7,17 +7,8 @@ neighbours gets an arc there and one back. Each arc takes the next word of Split
 """
 import sys
 
-MASK = (1 << 64) - 1
-
-
-def words(seed):
-    state = seed & MASK
-    while True:
-        state = (state + 0x9E3779B97F4A7C15) & MASK
-        z = state
-        z = ((z ^ (z >> 30)) * 0xBF58476D1CE4E5B9) & MASK
-        z = ((z ^ (z >> 27)) * 0x94D049BB133111EB) & MASK
-        yield z ^ (z >> 31)
+import drawing
+import program
 
 
 def arcs(source, width, height):
@@ -37,9 +28,17 @@ def text(seed, width, height):
     """The lines of the file."""
     count = 2 * ((width - 1) * height + width * (height - 1))
     yield "p sp %d %d\n" % (width * height, count)
-    for arc in arcs(words(seed), width, height):
+    for arc in arcs(drawing.words(seed), width, height):
         yield "a %d %d %d\n" % arc
 
 
+def main():
+    words = program.parser(__doc__)
+    for name in ("seed", "width", "height"):
+        words.add_argument(name, type=int)
+    given = words.parse_args()
+    sys.stdout.writelines(text(given.seed, given.width, given.height))
+
+
 if __name__ == "__main__":
-    sys.stdout.writelines(text(*(int(word) for word in sys.argv[1:4])))
+    main()

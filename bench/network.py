@@ -1,5 +1,5 @@
 #!/usr/bin/env python3
-"""Writes a road-like network as a .gr file: python3 bench/network.py SEED SIDE > FILE
+"""Writes a road-like network as a .gr file to the standard output.
 
 SIDE by SIDE junctions stand on a jittered grid. Streets join neighbours, one in eight only one way, and
 one in twelve is left out. Every eighth row and column is an arterial road, every twenty-fourth a motorway
@@ -11,24 +11,8 @@ The same seed and side give the same bytes.
 """
 import sys
 
-MASK = (1 << 64) - 1
-
-
-class Words:
-    """SplitMix64."""
-
-    def __init__(self, seed):
-        self.state = seed & MASK
-
-    def next(self):
-        self.state = (self.state + 0x9E3779B97F4A7C15) & MASK
-        z = self.state
-        z = ((z ^ (z >> 30)) * 0xBF58476D1CE4E5B9) & MASK
-        z = ((z ^ (z >> 27)) * 0x94D049BB133111EB) & MASK
-        return z ^ (z >> 31)
-
-    def below(self, n):
-        return self.next() % n
+import drawing
+import program
 
 
 def speed(line):
@@ -40,8 +24,12 @@ def speed(line):
 
 
 def network(seed, side):
-    words = Words(seed)
-    place = [(100 * c + words.below(41), 100 * r + words.below(41)) for r in range(side) for c in range(side)]
+    words = drawing.words(seed)
+
+    def below(n):
+        return next(words) % n
+
+    place = [(100 * c + below(41), 100 * r + below(41)) for r in range(side) for c in range(side)]
     arcs = []
 
     def time(u, v, metres_a_second):
@@ -49,18 +37,18 @@ def network(seed, side):
         return max(1, 10 * (abs(x - a) + abs(y - b)) // metres_a_second)
 
     def street(u, v, fast):
-        if fast == 9 and words.below(12) == 0:
+        if fast == 9 and below(12) == 0:
             return
         length = time(u, v, fast)
-        one_way = fast == 9 and words.below(8) == 0
-        if not one_way or words.below(2) == 0:
+        one_way = fast == 9 and below(8) == 0
+        if not one_way or below(2) == 0:
             arcs.append((u, v, length))
         else:
             arcs.append((v, u, length))
         if not one_way:
-            arcs.append((v, u, length + words.below(3)))
-        if words.below(40) == 0:
-            arcs.append((u, v, length + words.below(5)))
+            arcs.append((v, u, length + below(3)))
+        if below(40) == 0:
+            arcs.append((u, v, length + below(5)))
 
     for r in range(side):
         for c in range(side):
@@ -69,12 +57,12 @@ def network(seed, side):
                 street(u, u + 1, speed(r))
             if r + 1 < side:
                 street(u, u + side, speed(c))
-            if words.below(200) == 0:
-                arcs.append((u, u, 1 + words.below(50)))
+            if below(200) == 0:
+                arcs.append((u, u, 1 + below(50)))
     vertices = side * side
     for _ in range(vertices // 20):
-        u = words.below(side * side)
-        length = 20 + words.below(200)
+        u = below(side * side)
+        length = 20 + below(200)
         arcs.append((u, vertices, length))
         arcs.append((vertices, u, length))
         vertices += 1
@@ -101,9 +89,13 @@ def text(vertices, arcs, title):
 
 
 def main():
-    seed, side = int(sys.argv[1]), int(sys.argv[2])
-    vertices, arcs = network(seed, side)
-    sys.stdout.writelines(text(vertices, arcs, "a road-like network made by bench/network.py %d %d" % (seed, side)))
+    words = program.parser(__doc__)
+    for name in ("seed", "side"):
+        words.add_argument(name, type=int)
+    given = words.parse_args()
+    vertices, arcs = network(given.seed, given.side)
+    title = "a road-like network made by bench/network.py %d %d" % (given.seed, given.side)
+    sys.stdout.writelines(text(vertices, arcs, title))
 
 
 if __name__ == "__main__":

@@ -2,8 +2,9 @@
 """The definitions of docs/definitions.md, computed plainly and with no kit: canonical paths, the alternatives and the
 verdicts of a query, over all vertices and all pairs of places, and the replies to request lines.
 
-python3 bench/plain.py GRAPH < REQUESTS > REPLIES
+It answers the request lines of the standard input over a graph file without a fault.
 """
+import argparse
 import heapq
 import itertools
 import re
@@ -80,9 +81,9 @@ class Query:
     def __init__(self, graph, source, target, gamma, alpha, epsilon):
         self.graph, self.source = graph, source
         self.gamma, self.alpha, self.epsilon = gamma, alpha, epsilon
-        self.fronts = canonical_paths(graph.out, source)
-        backs = canonical_paths(graph.into, target)
-        self.path_of = {v: self.fronts[v][1][::-1] + backs[v][1] for v in self.fronts if v in backs}
+        self.from_source, to_target = canonical_paths(graph.out, source), canonical_paths(graph.into, target)
+        joined = [v for v in self.from_source if v in to_target]
+        self.path_of = {v: self.from_source[v][1][::-1] + to_target[v][1] for v in joined}
         self.optimum = self.path_of.get(target)
         if self.optimum is not None:
             self.shortest = self.length(self.optimum)
@@ -97,7 +98,7 @@ class Query:
         return [v for v, other in self.path_of.items() if other == path]
 
     def plateau(self, path):
-        labels = [self.fronts[v][0] for v in self.vias(path)]
+        labels = [self.from_source[v][0] for v in self.vias(path)]
         return max(labels) - min(labels)
 
     def is_long(self, path):
@@ -154,7 +155,7 @@ class Query:
         return sorted(found)
 
     def verdict(self, via):
-        """The words of the verdict behind its via vertex."""
+        """The words of the verdict after its via vertex."""
         path = self.path_of.get(via)
         if path is None:
             return "unreached"
@@ -175,11 +176,11 @@ class Query:
 
 
 class Refusal(Exception):
-    """What stands behind the word `error`."""
+    """What stands after the word `error`."""
 
 
 def lines_of(text):
-    """A line ends at a line feed; a carriage return before it belongs to the end. What is behind the last is a line too."""
+    """A line ends at a line feed; a carriage return before it belongs to the end. What is after the last is a line too."""
     lines = text.split(b"\n")
     if lines[-1] == b"":
         lines.pop()
@@ -264,9 +265,9 @@ def page(graph, cursor, since=0):
         numbers = name, length, shared, plateau, rank, arcs_text(path)
         items.append("route via %d length %d shared %d plateau %d rank %d arcs%s" % numbers)
     first = min(offset, len(items))
-    behind = first + min(size, len(items) - first)
-    more = ["more " + ".".join(str(number) for number in cursor[:-1] + [behind])]
-    return ["ok 1"] + items[first:behind] + (more if behind < len(items) else []) + ["end"]
+    end = first + min(size, len(items) - first)
+    more = ["more " + ".".join(str(number) for number in cursor[:-1] + [end])]
+    return ["ok 1"] + items[first:end] + (more if end < len(items) else []) + ["end"]
 
 
 def route(graph, fields):
@@ -328,7 +329,9 @@ def replies(graph, text):
 
 
 def main():
-    graph = read_graph(sys.argv[1])
+    words = argparse.ArgumentParser(description=__doc__, formatter_class=argparse.RawDescriptionHelpFormatter)
+    words.add_argument("graph")
+    graph = read_graph(words.parse_args().graph)
     sys.stdout.buffer.write(replies(graph, sys.stdin.buffer.read()))
 
 

@@ -1,4 +1,4 @@
-"""Random small graphs, and random request lines over them: good lines of every kind, pages one behind another, and lines
+"""Random small graphs, and random request lines over them: good lines of every kind, pages one after another, and lines
 with one fault or several."""
 import itertools
 
@@ -196,7 +196,7 @@ class Script:
         self.ask("optimum", self.number(source), self.number(target), *(["1"] if self.slips() else []))
 
     def ask_route(self):
-        """A page, and often the pages behind it."""
+        """A page, and often the pages after it."""
         source, target = self.ends()
         options = self.options(source, target, ["gamma", "alpha", "epsilon", "size", "since"])
         reply = self.ask("route", self.number(source), self.number(target), *options)

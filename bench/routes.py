@@ -1,26 +1,20 @@
 #!/usr/bin/env python3
 """Measures `route` lines on whole networks, beside a plain program of the same job where one is at hand.
 
-python3 bench/routes.py [--plain PROGRAM] [--pairs N] [--rounds N] [--rank K] [GRAPH..]
-
 A graph is a file, or `grid:W:H` (made by `road make 7 W H`), or `road:SIDE` (bench/network.py 1 SIDE). Each round runs
 `answer` over the graph with random pairs and without a request, and takes the difference; the plain program, which takes the
 same words, is run in turn, and the bytes of both are compared. With a rank the targets are near: from each random source the
 2^K-th vertex in the order of distance. Times are means over the pairs, of the quickest round; the spread is the slowest
 round's by the quickest. Memory is the peak of the resident set.
 """
-import argparse
 import array
 import heapq
 import os
-import random
-import resource
-import subprocess
 import sys
 import time
 
+import drawing
 import figures
-import plain
 import program
 
 USUAL = ["grid:60:60", "grid:300:300", "road:100", "road:316"]
@@ -71,18 +65,18 @@ def settled(first, steps, source, count):
 
 
 def requests_of(path, pairs, rank):
-    chance, vertices = random.Random(5), figures.vertices_of(path)
-    ends = [(chance.randint(1, vertices), chance.randint(1, vertices)) for _ in range(pairs)]
-    if rank is not None:
-        first, steps = arcs_of(path)
-        ends = [(source, settled(first, steps, source, 2**rank)) for source, _target in ends]
-    return "".join("route %d %d\n" % pair for pair in ends).encode()
+    text = drawing.requests("route", 5, pairs, figures.vertices_of(path))
+    if rank is None:
+        return text
+    first, steps = arcs_of(path)
+    sources = [int(line.split()[1]) for line in text.splitlines()]
+    return "".join("route %d %d\n" % (source, settled(first, steps, source, 2**rank)) for source in sources).encode()
 
 
 def run(words, text):
     begin = time.monotonic()
-    done = subprocess.run(words, input=text, stdout=subprocess.PIPE, check=True)
-    return time.monotonic() - begin, done.stdout
+    _status, output = program.run(words, text, check=True)
+    return time.monotonic() - begin, output
 
 
 def milliseconds(words, text, pairs, rounds):
@@ -96,7 +90,7 @@ def milliseconds(words, text, pairs, rounds):
 
 
 def main():
-    words = argparse.ArgumentParser(description=__doc__.splitlines()[0])
+    words = program.parser(__doc__)
     words.add_argument("graphs", nargs="*", default=USUAL)
     words.add_argument("--plain", help="a program that takes the same words")
     words.add_argument("--pairs", type=int, default=20)
@@ -108,8 +102,8 @@ def main():
     for name in given.graphs:
         path = graph_file(name)
         text = requests_of(path, given.pairs, given.rank)
-        times, output = milliseconds([program.BUILT, "answer", path], text, given.pairs, given.rounds)
-        memory = figures.peak([program.BUILT, "answer", path], text)
+        times, output = milliseconds([program.built(), "answer", path], text, given.pairs, given.rounds)
+        memory = figures.peak([program.built(), "answer", path], text)
         row = [os.path.basename(name), figures.vertices_of(path), "%.2f" % min(times), "%.2f" % (max(times) / min(times))]
         if given.plain:
             others, wanted = milliseconds([given.plain, "answer", path], text, given.pairs, given.rounds)

@@ -1,0 +1,52 @@
+#!/usr/bin/env python3
+"""Compares the replies to the examples with the stored ones, byte for byte.
+
+For each examples/NAME.requests the program answers over examples/NAME.gr, and has to write examples/NAME.replies, and so
+have the definitions (plain.py), from which the stored replies are. README shows the replies to small.requests, and its
+blocks with lines `> REQUEST` are examples over small.gr, which are held to the definitions. It ends with 1 where a byte
+differs.
+"""
+import glob
+import os
+import re
+import sys
+
+import plain
+import program
+
+
+def read(path):
+    with open(path, "rb") as file:
+        return file.read()
+
+
+def demand(name, found, wanted):
+    if found != wanted:
+        program.save("example.expected", wanted)
+        program.save("example.replied", found)
+        sys.exit("%s: another reply; see example.expected and example.replied in bench/out" % name)
+
+
+def main():
+    program.parser(__doc__).parse_args()
+    examples = sorted(glob.glob(os.path.join(program.TOP, "examples", "*.requests")))
+    for path in examples:
+        name = path[: -len(".requests")]
+        requests, replies = read(path), read(name + ".replies")
+        defined = plain.replies(plain.read_graph(name + ".gr"), requests)
+        demand(os.path.basename(path) + ", by the definitions", defined, replies)
+        status, output = program.road("answer", name + ".gr", text=requests)
+        demand(os.path.basename(path), b"%sstatus %d" % (output, status), replies + b"status 0")
+    readme = read(os.path.join(program.TOP, "README.md"))
+    first = re.search(rb"^```\n(.*?)^```$", readme, re.M | re.S)
+    demand("the first block of README", first[1], read(os.path.join(program.TOP, "examples", "small.replies")))
+    small = plain.read_graph(os.path.join(program.TOP, "examples", "small.gr"))
+    blocks = re.findall(rb"^```\n(> .*?)^```$", readme, re.M | re.S)
+    for block in blocks:
+        for request, reply in re.findall(rb"^> (.*)\n((?:[^>].*\n)*)", block, re.M):
+            demand("README, " + request.decode(), reply, plain.replies(small, request + b"\n"))
+    print("%d examples, %d blocks of README: the same bytes" % (len(examples), len(blocks)))
+
+
+if __name__ == "__main__":
+    main()
