@@ -1,4 +1,5 @@
 use super::*;
+use crate::tree::by_subtree;
 use forward_star::Star;
 use road_model::{ArcRow, ArcRows, GraphFile, Vertex};
 use std::alloc::Global;
@@ -55,5 +56,13 @@ fn wishes_come_first_and_once(rt: HostRuntime) -> Result<(), Fail> {
     let order = order_by(rt.alloc(), 4, &[3, 9, 3, 0, 2])?;
     let wanted = [Vertex(3), Vertex(2), Vertex(1), Vertex(4)];
     assert_eq!(rt; order.vertices.as_slice(), wanted.as_slice());
+    Ok(())
+}
+
+#[test]
+fn subtrees_stand_together(rt: HostRuntime) -> Result<(), Fail> {
+    let placed = by_subtree(rt.alloc(), &[1, 2, 3, 4, 5], &[0, 5, 4, 5, 5, 0])?;
+    let wanted = [1u32, 3, 2, 4, 5];
+    assert_eq!(rt; placed.as_slice(), wanted.as_slice());
     Ok(())
 }
