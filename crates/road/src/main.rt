@@ -10,7 +10,15 @@ use std::io::ErrorKind;
 use std::process::ExitCode;
 use std::{env, io};
 
-/// The words behind the program's name.
+/// The words of all commands, a line each.
+const COMMANDS: &str = "\
+  road check GRAPH
+  road print GRAPH
+  road make SEED WIDTH HEIGHT
+  road survey SEED WIDTH HEIGHT QUERIES
+  road answer GRAPH < REQUESTS";
+
+/// The words after the program's name.
 fn words(rt: &HostRuntime) -> io::Result<Vec<String>> {
     let mut words = Vec::new(rt.alloc());
     for word in env::args(rt)?.skip(1) {
@@ -30,18 +38,42 @@ fn ends_without_words(kind: ErrorKind) -> Status
     }
 }
 
-fn main(rt: HostRuntime) -> ExitCode {
-    let status = match words(&rt) {
-        Ok(words) => {
-            let mut shelf = FileShelf::new(&rt);
-            let mut input = StdinSource::new(&rt);
-            let mut output = StdoutSink::new(&rt);
-            run(&rt, rt.alloc(), &words, &mut shelf, &mut input, &mut output)
+/// Says on standard error how a run ended that isn't whole, and what may help.
+fn tell(rt: &HostRuntime, status: Status, file: Option<&String>) {
+    let _ = eprintln!(rt; "road: {status}");
+    match (status, file) {
+        (Status::Usage, _) => {
+            let _ = eprintln!(rt; "the commands are:\n{COMMANDS}");
         }
-        Err(error) => ends_without_words(error.kind()),
+        (Status::GraphRefused(_), Some(name)) => {
+            let _ = eprintln!(rt;
+                "the graph file is {name}; its form is that of the 9th DIMACS Challenge"
+            );
+        }
+        (Status::ReadFault, Some(name)) => {
+            let _ = eprintln!(rt;
+                "the graph file is {name}; it, or the standard input, can't be read"
+            );
+        }
+        _ => {}
+    }
+}
+
+fn main(rt: HostRuntime) -> ExitCode {
+    let words = match words(&rt) {
+        Ok(words) => words,
+        Err(error) => {
+            let status = ends_without_words(error.kind());
+            tell(&rt, status, None);
+            return ExitCode::from(status.number());
+        }
     };
+    let mut shelf = FileShelf::new(&rt);
+    let mut input = StdinSource::new(&rt);
+    let mut output = StdoutSink::new(&rt);
+    let status = run(&rt, rt.alloc(), &words, &mut shelf, &mut input, &mut output);
     if status != Status::Done {
-        let _ = eprintln!(rt; "road: {status}");
+        tell(&rt, status, words.get(1));
     }
     ExitCode::from(status.number())
 }
