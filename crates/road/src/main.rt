@@ -11,8 +11,7 @@ use std::process::ExitCode;
 use std::{env, io};
 
 /// The words of all commands, a line each.
-const COMMANDS: &str = "\
-  road check GRAPH
+const COMMANDS: &str = "  road check GRAPH
   road print GRAPH
   road make SEED WIDTH HEIGHT
   road survey SEED WIDTH HEIGHT QUERIES
