@@ -1,19 +1,16 @@
 -- The labels of a search that is over, and the members of a whole ball.
-use Rattle.std.proofs.Common.{◌≡◌, ◌<◌, ◌≤◌, ◌+◌, ◌^◌, ◌↔◌, ℕ, Bool, true, false, cond, eqb, List, length, map, get_or, Option, Some, None, IsSome, unwrap_or, Contains, refl, sym, ap, ◌∙◌, subst, arith, inl, inr, ⊎_elim}
-use Rattle.std.specs.List.{IsDistinct}
-use Rattle.std.specs.List.Sorted.{IsPermutation, IsNonDecreasing, IsStrictlyIncreasing}
+use Rattle.std.proofs.Common.{◌≡◌, ◌<◌, ◌≤◌, ◌+◌, ◌^◌, ◌↔◌, ℕ, Bool, true, false, cond, List, length, map, get_or, Option, Some, None, IsSome, unwrap_or, Contains, refl, sym, ap, ◌∙◌, subst, arith, inl, inr, ⊎_elim}
+use Rattle.std.specs.List.Sorted.{IsStrictlyIncreasing}
 use Rattle.std.proofs.lemmas.Bool.{cases_lt, le-leb, lt-leb}
 use Rattle.std.proofs.lemmas.List.{length-map, get_or-map, get_or_past}
-use Rattle.std.proofs.lemmas.List.Elements.{All-contains}
-use Rattle.std.proofs.lemmas.List.Sorted.{All-permutation, Contains-permutation, IsPermutation-sym}
-use Rattle.std.proofs.lemmas.Map.Keys.{IsStrictlyIncreasing-from_distinct, IsDistinct-IsPermutation}
-use Rattle.std.specs.Cmp.{nat_eq_equiv}
+use Rattle.std.proofs.lemmas.List.Elements.{All-contains, All-from_get_or, Contains-get_or}
 use Rattle.road_model.specs.Graph.{Graph, IsVertex, IsGraph}
 use Rattle.road_model.specs.Dist.{IsDist, NoWalk, DistsBelow}
 use Rattle.road_model.proofs.Walks.{IsWalk-inside}
 use Rattle.label_setting.specs.declared.memory.Goal.{Goal}
 use Rattle.tree_search.specs.Ball.{label_at, label_within, IsLabelled, IsBall, IsLabelledTo, IsBounded}
 use Rattle.label_setting.specs.Search.{far, IsSettled, IsTracked, IsListed, IsAimed}
+use Rattle.tree_search.proofs.Ascending.{HasSame}
 
 -- stored numbers as labels
 label_at-inside : (limit : ℕ) (labels : List ℕ) (v : ℕ) → v < length labels → label_at (map (label_within limit) labels) v ≡ label_within limit (get_or labels v 0)
@@ -105,28 +102,24 @@ found g root target radius limit labels sound inside there h short aim low =
       labelled = IsLabelled-settled g root limit labels sound inside h;
     }
 
-labelled_is_member : (radius : ℕ) (labels touched members : List ℕ) → IsTracked labels touched → IsListed radius labels touched → IsPermutation touched members → (v : ℕ) (o : Option ℕ) → label_at (map (label_within radius) labels) v ≡ o → IsSome o → Contains members v
+labelled_is_member : (radius : ℕ) (labels touched members : List ℕ) → IsTracked labels touched → IsListed radius labels touched → HasSame members touched → (v : ℕ) (o : Option ℕ) → label_at (map (label_within radius) labels) v ≡ o → IsSome o → Contains members v
 labelled_is_member radius labels touched members tracked listed same v None is some = absurd (let e : false ≡ true = some in cc)
 labelled_is_member radius labels touched members tracked listed same v (Some k) is some =
     let stored = stored_from_label radius labels v k is in
     ⊎_elim
     (λ (bare : get_or labels v 0 ≡ far). absurd (omega (arith, stored.is, stored.low, listed.low)))
-    (λ (there : Contains touched v). Contains-permutation touched members v same there)
+    (λ (there : Contains touched v). (same v).1 there)
     (tracked.covers v stored.inside)
 
 -- the touched vertices of a whole ball are its members
-pub members_of : (radius : ℕ) (labels touched members : List ℕ) → IsTracked labels touched → IsListed radius labels touched → IsPermutation touched members → (v : ℕ) → Contains members v ↔ IsSome (label_at (map (label_within radius) labels) v)
+pub members_of : (radius : ℕ) (labels touched members : List ℕ) → IsTracked labels touched → IsListed radius labels touched → HasSame members touched → (v : ℕ) → Contains members v ↔ IsSome (label_at (map (label_within radius) labels) v)
 members_of radius labels touched members tracked listed same v = (
   (λ there.
-      let was : Contains touched v = Contains-permutation members touched v (IsPermutation-sym touched members same) there in
+      let was : Contains touched v = (same v).0 there in
       let inside : v < length labels = All-contains (λ (x : ℕ). x < length labels) touched v tracked.inside was in
       subst (λ (o : Option ℕ). IsSome o) (sym (label_at-low radius labels v inside (listed.each v was))) refl),
   (λ some. labelled_is_member radius labels touched members tracked listed same v (label_at (map (label_within radius) labels) v) refl some),
 )
-
-pub ascending_members : (touched members : List ℕ) → IsDistinct eqb touched → IsPermutation touched members → IsNonDecreasing members → IsStrictlyIncreasing members
-ascending_members touched members apart same sorted =
-    IsStrictlyIncreasing-from_distinct members sorted (IsDistinct-IsPermutation eqb nat_eq_equiv.symm touched members same apart)
 
 pub reach_low : (g : Graph) (radius : Option ℕ) → IsBounded g radius → unwrap_or radius 288230376151711743 < 2 ^ 60
 reach_low g None bounded = omega arith
@@ -145,24 +138,25 @@ IsLabelled-bounded : (g : Graph) (root : ℕ) (radius : Option ℕ) (labels : Li
 IsLabelled-bounded g root None labels bounded h = IsLabelled-unbounded g root labels bounded h
 IsLabelled-bounded g root (Some r) labels bounded h = h
 
-pub IsBall-settled : (g : Graph) (root : ℕ) (radius : Option ℕ) (reach limit : ℕ) (labels touched members : List ℕ) → IsGraph g → IsVertex g.vertices root → IsBounded g radius → reach ≡ unwrap_or radius 288230376151711743 → limit ≡ reach → IsSettled g root limit labels → IsTracked labels touched → IsListed reach labels touched → IsPermutation touched members → IsNonDecreasing members → IsBall g root radius (record { labels = map (label_within limit) labels; members = members })
-IsBall-settled g root radius reach limit labels touched members sound inside bounded is whole h tracked listed same sorted =
+pub IsBall-settled : (g : Graph) (root : ℕ) (radius : Option ℕ) (reach limit : ℕ) (labels touched members : List ℕ) → IsGraph g → IsVertex g.vertices root → IsBounded g radius → reach ≡ unwrap_or radius 288230376151711743 → limit ≡ reach → IsSettled g root limit labels → IsTracked labels touched → IsListed reach labels touched → HasSame members touched → IsStrictlyIncreasing members → IsBall g root radius (record { labels = map (label_within limit) labels; members = members })
+IsBall-settled g root radius reach limit labels touched members sound inside bounded is whole h tracked listed same ascending =
     let all : limit ≡ unwrap_or radius 288230376151711743 = whole ∙ is in
     let within : IsListed limit labels touched = subst (λ (r : ℕ). IsListed r labels touched) (sym whole) listed in
     let labelled : IsLabelled g root (Some limit) (map (label_within limit) labels) = IsLabelled-settled g root limit labels sound inside h in
     record {
       labelled = IsLabelled-bounded g root radius (map (label_within limit) labels) bounded (subst (λ (r : ℕ). IsLabelled g root (Some r) (map (label_within limit) labels)) all labelled);
       members = members_of limit labels touched members tracked within same;
-      ascending = ascending_members touched members within.apart same sorted;
+      ascending = ascending;
     }
 
 -- the touched vertices in another order
-pub IsTracked-permuted : (labels touched members : List ℕ) → IsTracked labels touched → IsPermutation touched members → IsTracked labels members
-IsTracked-permuted labels touched members tracked same =
+pub IsTracked-same : (labels touched members : List ℕ) → IsTracked labels touched → HasSame members touched → IsTracked labels members
+IsTracked-same labels touched members tracked same =
     record {
-      inside = All-permutation (λ (v : ℕ). v < length labels) touched members same tracked.inside;
+      inside = All-from_get_or (λ (v : ℕ). v < length labels) members 0
+          (λ i low. All-contains (λ (v : ℕ). v < length labels) touched (get_or members i 0) tracked.inside ((same (get_or members i 0)).0 (Contains-get_or members i 0 low)));
       covers = (λ x hx. ⊎_elim
           (λ (bare : get_or labels x 0 ≡ far). inl bare)
-          (λ (there : Contains touched x). inr (Contains-permutation touched members x same there))
+          (λ (there : Contains touched x). inr ((same x).1 there))
           (tracked.covers x hx));
     }

@@ -6,6 +6,7 @@
 
 mod labels;
 mod oracle;
+mod ordering;
 pub mod search;
 
 pub use label_setting::SearchMemory;

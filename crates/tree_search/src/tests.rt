@@ -75,7 +75,7 @@ fn distances_of(
     Ok(distances)
 }
 
-fn star_of(alloc: Global) -> Result<Star, Fail> {
+fn star_of(alloc: Global, vertices: u32) -> Result<Star, Fail> {
     let arcs = [
         (1, 2, 10),
         (2, 6, 10),
@@ -84,7 +84,7 @@ fn star_of(alloc: Global) -> Result<Star, Fail> {
         (4, 6, 5),
         (2, 3, 1),
     ];
-    Ok(Star::build(alloc, graph_of(alloc, 6, &arcs)?)?)
+    Ok(Star::build(alloc, graph_of(alloc, vertices, &arcs)?)?)
 }
 
 // A long arc into the first vertex of a short one.
@@ -95,7 +95,7 @@ fn long_star_of(alloc: Global) -> Result<Star, Fail> {
 
 #[test]
 fn finds_a_ball(rt: HostRuntime) -> Result<(), Fail> {
-    let star = star_of(rt.alloc())?;
+    let star = star_of(rt.alloc(), 6)?;
     let near = ball_of(rt.alloc(), &star, 1, Some(11))?;
     let members = [Vertex(1), Vertex(2), Vertex(3)];
     assert_eq!(rt; near.members().as_slice(), members.as_slice());
@@ -104,6 +104,13 @@ fn finds_a_ball(rt: HostRuntime) -> Result<(), Fail> {
     assert_eq!(rt; near.label(Vertex(3)), Some(11));
     assert_eq!(rt; near.label(Vertex(4)), None);
     assert_eq!(rt; near.label(Vertex(4294967295)), None);
+    // The same ball, of most of a graph and of a small part of one, reached in the order 2, 6, 3, 4.
+    let reached = [Vertex(2), Vertex(3), Vertex(4), Vertex(6)];
+    let most = ball_of(rt.alloc(), &star, 2, Some(10))?;
+    assert_eq!(rt; most.members().as_slice(), reached.as_slice());
+    let sparse = star_of(rt.alloc(), 100)?;
+    let part = ball_of(rt.alloc(), &sparse, 2, Some(10))?;
+    assert_eq!(rt; part.members().as_slice(), reached.as_slice());
     Ok(())
 }
 
@@ -118,7 +125,7 @@ fn finds_all_that_can_be_reached(rt: HostRuntime) -> Result<(), Fail> {
 
 #[test]
 fn answers_distances(rt: HostRuntime) -> Result<(), Fail> {
-    let star = star_of(rt.alloc())?;
+    let star = star_of(rt.alloc(), 6)?;
     let pairs = [(2, 4), (1, 5), (1, 6), (6, 6), (2, 4)];
     let wanted = [Some(7), None, Some(20), Some(0), Some(7)];
     let distances = distances_of(rt.alloc(), &star, &pairs)?;
@@ -128,7 +135,7 @@ fn answers_distances(rt: HostRuntime) -> Result<(), Fail> {
 
 #[test]
 fn searches_up_to_a_target(rt: HostRuntime) -> Result<(), Fail> {
-    let star = star_of(rt.alloc())?;
+    let star = star_of(rt.alloc(), 6)?;
     let mut memory = SearchMemory::new(rt.alloc());
     assert_eq!(rt; distance_to(rt.alloc(), &mut memory, &star, 2, 4)?, Some(7));
     assert_eq!(rt; distance_to(rt.alloc(), &mut memory, &star, 1, 5)?, None);

@@ -1,11 +1,9 @@
 use Rattle.std.proofs.Common.{ℕ, map, arith, sym, subst, refl}
-use Rattle.std.specs.List.Sorted.{IsNonDecreasing}
-use Rattle.std.proofs.lemmas.List.Sorted.{IsNonDecreasingBy-from_sort}
 use Rattle.label_setting.specs.declared.memory.Goal.{Goal}
 use Rattle.label_setting.specs.declared.memory.SearchMemory.{SearchMemory}
 use Rattle.label_setting.specs.Search.{IsSettled, IsTracked}
 use Rattle.tree_search.specs.Ball.{IsBall, Reached, label_within}
-use Rattle.tree_search.proofs.FoundLabels.{reach_low, whole_radius, IsBall-settled, IsTracked-permuted}
+use Rattle.tree_search.proofs.FoundLabels.{reach_low, whole_radius, IsBall-settled, IsTracked-same}
 use Rattle.tree_search.proofs.search.ball_in.Goals as goal
 
 pub run-requires-clause-low : goal.run-requires-clause-low
@@ -27,7 +25,7 @@ pub of-requires-clause-tracked : goal.of-requires-clause-tracked
 of-requires-clause-tracked g c =
     let labels = c.run.new.self.labels.items in
     subst (λ (m : SearchMemory). IsTracked m.labels.items m.touched.items) (sym c.replace-found.ensures.value)
-    (IsTracked-permuted labels c.run.new.self.touched.items c.sort_unstable.new.self.items c.in_ok-limit.ensures.tracked c.sort_unstable.ensures.permutation)
+    (IsTracked-same labels c.run.new.self.touched.items c.put_in_order.new.touched.items c.in_ok-limit.ensures.tracked c.put_in_order.ensures.same)
 
 pub returns-clause-ball : goal.returns-clause-ball
 returns-clause-ball g c =
@@ -39,7 +37,6 @@ returns-clause-ball g c =
     let low = reach_low graph c.args.radius c.requires.bounded in
     let whole = whole_radius aim limit memory.labels.items refl c.in_ok-limit.ensures.unused c.in_ok-limit.ensures.within (omega arith) c.in_ok-limit.ensures.aimed in
     let settled : IsSettled graph c.args.root limit memory.labels.items = subst (λ (x : ℕ). IsSettled graph x limit memory.labels.items) c.number.ensures.value c.in_ok-limit.ensures.settled in
-    let sorted : IsNonDecreasing c.sort_unstable.new.self.items = IsNonDecreasingBy-from_sort (λ (x : ℕ). x) c.sort_unstable.new.self.items c.sort_unstable.ensures.sorted in
-    let ball = IsBall-settled graph c.args.root c.args.radius c.unwrap_or.result limit memory.labels.items memory.touched.items c.sort_unstable.new.self.items c.vertices.ensures.sound c.requires.inside c.requires.bounded is whole settled c.in_ok-limit.ensures.tracked c.in_ok-limit.ensures.listed c.sort_unstable.ensures.permutation sorted in
+    let ball = IsBall-settled graph c.args.root c.args.radius c.unwrap_or.result limit memory.labels.items memory.touched.items c.put_in_order.new.touched.items c.vertices.ensures.sound c.requires.inside c.requires.bounded is whole settled c.in_ok-limit.ensures.tracked c.in_ok-limit.ensures.listed c.put_in_order.ensures.same c.put_in_order.ensures.ascending in
     subst (λ (b : Reached). IsBall graph c.args.root c.args.radius b) (sym c.of.ensures)
     (subst (λ (m : SearchMemory). IsBall graph c.args.root c.args.radius (record { labels = map (label_within limit) m.labels.items; members = m.touched.items })) (sym c.replace-found.ensures.value) ball)
