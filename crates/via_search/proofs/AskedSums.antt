@@ -10,7 +10,6 @@ use Rattle.road_model.specs.declared.answer.Query.{Query}
 use Rattle.road_model.specs.declared.trail.Trail.{Trail}
 use Rattle.road_model.specs.Graph.{Graph}
 use Rattle.road_model.specs.Walk.{walk_length}
-use Rattle.road_model.specs.Canonical.{IsFirst}
 use Rattle.road_model.specs.Fraction.{Stretches}
 use Rattle.road_model.specs.Places.{places, trail_of}
 use Rattle.road_model.specs.Alternatives.{IsVia, IsName}

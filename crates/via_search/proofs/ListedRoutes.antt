@@ -1,5 +1,5 @@
 -- The routes that are listed, one plateau after the other, and their order.
-use Rattle.std.proofs.Common.{◌≡◌, ◌≢◌, ℕ, ◌+◌, ◌<◌, ◌≤◌, ◌⊎◌, ◌==◌, zero, suc, Bool, false, List, [], ◌∷◌, ◌++◌, length, get_or, Option, Some, None, All, AllPairs, Contains, slice_get, IsPermutation, refl, sym, ap, ◌∙◌, subst, arith, inl, inr, ⊎_elim}
+use Rattle.std.proofs.Common.{◌≡◌, ◌≢◌, ℕ, ◌+◌, ◌<◌, ◌≤◌, ◌⊎◌, ◌==◌, zero, suc, Bool, false, List, [], ◌∷◌, ◌++◌, length, get_or, Option, Some, None, All, AllPairs, slice_get, IsPermutation, sym, ap, ◌∙◌, subst, arith, inl, inr, ⊎_elim}
 use Rattle.std.specs.List.{IsDistinct}
 use Rattle.std.proofs.lemmas.Bool.{cases_lt, cases_order, ne_eqb, eqb-false}
 use Rattle.std.proofs.lemmas.List.Elements.{All-nil, All-push, All-weaker, All-from_recursion, Contains-append_left, Contains-push}

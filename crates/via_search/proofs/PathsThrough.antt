@@ -1,15 +1,16 @@
 -- The path through a vertex, from the two distances that it is made of.
-use Rattle.std.proofs.Common.{◌≡◌, ℕ, ◌+◌, ◌^◌, ◌<◌, ◌≤◌, ◌++◌, List, Option, Some, None, IfSome, refl, sym, ap, ◌∙◌, subst, arith}
+use Rattle.std.proofs.Common.{◌≡◌, ℕ, ◌+◌, ◌^◌, ◌<◌, ◌≤◌, ◌⊎◌, ◌++◌, List, Option, Some, None, IfSome, refl, sym, ap, ◌∙◌, subst, arith, ⊎_elim}
 use Rattle.road_model.specs.Graph.{Graph, IsVertex}
 use Rattle.road_model.specs.File.{IsWithinLimits}
 use Rattle.road_model.specs.Walk.{walk_length}
 use Rattle.road_model.specs.Dist.{IsDist, HaveSameDist}
 use Rattle.road_model.specs.Alternatives.{IsVia, IsName}
 use Rattle.forward_star.proofs.Bound.{dists_below}
-use Rattle.canonical_trees.specs.Trees.{Trees}
-use Rattle.canonical_trees.proofs.Balls.{dist_below}
+use Rattle.canonical_trees.specs.Trees.{Trees, IsOutside}
+use Rattle.canonical_trees.proofs.Balls.{dist_below, apart}
 use Rattle.via_search.specs.declared.candidates.Candidate.{Candidate}
 use Rattle.via_search.specs.Candidates.{IsCandidate, FindsCandidate}
+use Rattle.via_search.specs.Settings.{Givens, trees_of}
 use Rattle.plateau_finder.specs.Plateaus.{IsInBoth}
 use Rattle.via_search.specs.Through.{NamesPath, HasPathThrough, IsLengthThrough}
 use Rattle.canonical_trees.proofs.ThroughVertex.{via_parts, IsVia-unique, via_length}
@@ -51,10 +52,11 @@ candidate_long g s t v l c h is candidate =
     let same : c.arcs ≡ h.path = IsVia-unique g s t v c.arcs h.path own h.through in
     candidate.is_length ∙ (ap (λ (p : List ℕ). walk_length g p) same ∙ sym h.is_length)
 
--- what the trees of the query gave, told of its star
-pub found_here : (ts : Trees) (g : Graph) (s t : ℕ) (radius : Option ℕ) (l v : ℕ) (o : Option Candidate) → ts ≡ record { graph = g; source = s; target = t; radius = radius } → FindsCandidate ts.graph ts.source ts.target l v o → FindsCandidate g s t l v o
-found_here ts g s t radius l v o is h =
-    subst (λ (x : Trees). FindsCandidate x.graph x.source x.target l v o) is h
+-- what the trees of a setting gave, told of what a clause sees of it
+pub found_in : (ts : Trees) (x y : Givens) (v : ℕ) (o : Option Candidate) → ts ≡ trees_of x → x ≡ y → FindsCandidate ts.graph ts.source ts.target x.reach v o → FindsCandidate y.graph y.query.from y.query.to y.reach v o
+found_in ts x y v o trees same h =
+    subst (λ (z : Givens). FindsCandidate z.graph z.query.from z.query.to z.reach v o) same
+    (subst (λ (zs : Trees). FindsCandidate zs.graph zs.source zs.target x.reach v o) trees h)
 
 pub found_some : (g : Graph) (s t l v : ℕ) (o : Option Candidate) (c : Candidate) → FindsCandidate g s t l v o → o ≡ Some c → (c.via ≡ v) × IsCandidate g s t c × (walk_length g c.arcs ≤ l)
 found_some g s t l v o c h is = subst (λ (x : Option Candidate). FindsCandidate g s t l v x) is h
@@ -72,6 +74,13 @@ inside_through g s t v l h =
       from = record { distance = walk_length g via.front; dist = dist_of_shortest g s v via.front via.first.shortest; within = omega (arith, parts, long) };
       to = record { distance = walk_length g via.back; dist = dist_of_shortest g v t via.back via.last.shortest; within = omega (arith, parts, long) };
     }
+
+pub not_outside : (ts : Trees) (v : ℕ) → IsInBoth ts v → IsOutside ts.graph ts.radius ts.source v ⊎ IsOutside ts.graph ts.radius v ts.target → ⊥
+not_outside ts v inside outside =
+    ⊎_elim
+    (λ (from : IsOutside ts.graph ts.radius ts.source v). apart ts.graph ts.radius ts.source v inside.from from)
+    (λ (to : IsOutside ts.graph ts.radius v ts.target). apart ts.graph ts.radius v ts.target inside.to to)
+    outside
 
 pub named_through : (g : Graph) (s t v l n : ℕ) (c : Candidate) → c.via ≡ v → IsCandidate g s t c → walk_length g c.arcs ≤ l → NamesPath (record { graph = g; source = s; target = t; radius = Some l }) v n → IsName g s t c.arcs n
 named_through g s t v l n c same own within names =

@@ -1,7 +1,7 @@
 -- The path of a plateau within the stretch bound of a query: whether it is the optimum, and its route.
-use Rattle.std.proofs.Common.{◌≡◌, ◌≢◌, ℕ, ◌+◌, ◌*◌, ◌-◌, ◌<◌, ◌≤◌, List, [], ◌∷◌, ◌++◌, length, Option, Some, None, Bool, true, false, refl, sym, ap, ◌∙◌, subst, arith, ⊎_elim}
+use Rattle.std.proofs.Common.{◌≡◌, ◌≢◌, ℕ, ◌+◌, ◌*◌, ◌<◌, ◌≤◌, List, [], ◌∷◌, ◌++◌, Option, Some, None, Bool, true, false, refl, sym, ap, ◌∙◌, subst, arith, ⊎_elim}
 use Rattle.std.proofs.lemmas.List.{append-nil}
-use Rattle.std.proofs.lemmas.Bool.{cases_lt, cases_eq}
+use Rattle.std.proofs.lemmas.Bool.{cases_lt}
 use Rattle.road_model.specs.declared.answer.Optimum.{Optimum}
 use Rattle.road_model.specs.declared.answer.Query.{Query}
 use Rattle.road_model.specs.declared.answer.Route.{Route}
@@ -9,12 +9,12 @@ use Rattle.road_model.specs.Graph.{Graph, IsGraph}
 use Rattle.road_model.specs.Walk.{IsWalk, walk_length}
 use Rattle.road_model.specs.Dist.{IsDist}
 use Rattle.road_model.specs.Canonical.{IsFirst, IsLast}
-use Rattle.road_model.specs.Fraction.{Allows, IsAbove, Stretches}
+use Rattle.road_model.specs.Fraction.{Allows, IsAbove}
 use Rattle.road_model.specs.Tests.{shared}
-use Rattle.road_model.specs.Alternatives.{IsVia, IsAlternative, IsAdmissible, IsName, IsPlateau, rank_of}
+use Rattle.road_model.specs.Alternatives.{IsVia, IsAdmissible, IsName, IsPlateau, rank_of}
 use Rattle.road_model.specs.Answers.{IsRoute}
 use Rattle.road_model.proofs.Walks.{IsWalk-inside, walk_length-positive}
-use Rattle.road_model.proofs.Dists.{IsDist-same, IsDist-itself, dist_of_shortest}
+use Rattle.road_model.proofs.Dists.{IsDist-itself, dist_of_shortest}
 use Rattle.road_model.proofs.CanonicalWalks.{IsFirst-unique, IsLast-unique}
 use Rattle.canonical_trees.specs.Trees.{Trees}
 use Rattle.canonical_trees.proofs.Canonical.{IsLast-nil}
@@ -24,7 +24,7 @@ use Rattle.plateau_finder.specs.Plateaus.{IsInBoth, IsPlateauOf, IsListed}
 use Rattle.tree_tests.specs.Sums.{Shares, carried}
 use Rattle.tree_tests.specs.Never.{IsNever}
 use Rattle.tree_tests.proofs.UpSteps.{carried-le}
-use Rattle.tree_tests.proofs.Repeats.{carries_too_much, carried_of_admissible, bounded_is_distinct, shortest_is_distinct, shared_is_carried}
+use Rattle.tree_tests.proofs.Repeats.{carries_too_much, bounded_is_distinct, shortest_is_distinct, shared_is_carried}
 use Rattle.via_search.specs.declared.candidates.Candidate.{Candidate}
 use Rattle.via_search.specs.Candidates.{IsPosed, IsCandidate, FindsCandidate, IsBoundOf, pair_of}
 use Rattle.via_search.specs.Judging.{IsPassing}

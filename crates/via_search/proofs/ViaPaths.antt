@@ -1,5 +1,5 @@
 -- The path through a vertex, and the two lengths that it is made of.
-use Rattle.std.proofs.Common.{◌≡◌, ℕ, ◌+◌, ◌*◌, ◌<◌, ◌≤◌, ◌^◌, ◌⊎◌, List, [], ◌∷◌, ◌++◌, length, Option, Some, None, refl, sym, ap, ◌∙◌, subst, arith, get_or, ⊎_elim}
+use Rattle.std.proofs.Common.{◌≡◌, ℕ, ◌+◌, ◌*◌, ◌<◌, ◌≤◌, ◌^◌, ◌⊎◌, List, [], ◌∷◌, length, Option, Some, None, refl, sym, subst, arith, get_or, ⊎_elim}
 use Rattle.std.proofs.lemmas.List.{append-nil}
 use Rattle.std.proofs.lemmas.Bool.{cases_lt}
 use Rattle.road_model.specs.declared.answer.Query.{Query}
@@ -9,12 +9,10 @@ use Rattle.road_model.specs.Dist.{IsDist}
 use Rattle.road_model.specs.Canonical.{IsFirst}
 use Rattle.road_model.specs.Places.{places, sums, trail_of, vertex_at, between, IsDistAt}
 use Rattle.road_model.specs.Alternatives.{IsVia, IsAdmissible}
-use Rattle.road_model.proofs.Walks.{IsWalk-append, walk_length-append}
-use Rattle.road_model.proofs.Dists.{IsDist-same, dist_of_shortest}
-use Rattle.road_model.proofs.CanonicalWalks.{IsFirst-unique, IsLast-unique}
+use Rattle.road_model.proofs.Dists.{dist_of_shortest}
 use Rattle.road_model.proofs.Parts.{place_after, sum_after, length-places}
 use Rattle.canonical_trees.specs.Trees.{Trees, IsInside, IsOutside, IsViaPath}
-use Rattle.canonical_trees.proofs.ThroughVertex.{IsVia-unique, via_walk, via_parts, near_of_via, via_length}
+use Rattle.canonical_trees.proofs.ThroughVertex.{via_parts, via_length}
 use Rattle.tree_search.specs.Ball.{IsWithin, IsBeyond}
 use Rattle.via_search.specs.Candidates.{IsCandidate, IsNear}
 

@@ -21,6 +21,10 @@ use Rattle.via_search.specs.Judging.{FailsLocalOf, FailsStretchOf, IsPassing, St
 use Rattle.canonical_trees.proofs.ThroughVertex.{via_walk, near_of_via}
 use Rattle.via_search.proofs.FewArcs.{default_of, place_unique, shortest_few}
 
+-- the trail of a path, told of another name of it
+pub trail_along : (g : Graph) (s : ℕ) (t : Trail) (p q : List ℕ) → t ≡ trail_of g s p → p ≡ q → t ≡ trail_of g s q
+trail_along g s t p q is same = is ∙ ap (λ (l : List ℕ). trail_of g s l) same
+
 pub candidate_walk : (g : Graph) (s t : ℕ) (c : Candidate) → IsCandidate g s t c → IsWalkFrom g s c.arcs
 candidate_walk g s t c h = record { end = t; walk = via_walk g s t c.via c.arcs h.through }
 

@@ -1,4 +1,5 @@
 pub mod Candidates
+pub mod Settings
 pub mod Judging
 pub mod Asks
 pub mod Listing

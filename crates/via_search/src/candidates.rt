@@ -1,10 +1,11 @@
 //! The path through a vertex.
 
-ghost use Rattle.std.specs.Prelude.{◌≡◌, ◌↔◌, Some, IfOk, IsTrue};
+ghost use Rattle.std.specs.Prelude.{◌≡◌, ◌↔◌, IfOk, IsTrue};
 ghost use Rattle.via_search.specs.Candidates.{FindsCandidate};
 
-use canonical_trees::{TreePair, via_path};
-use road_model::{ArcList, ArcNo, NoMemory, Optimum, Vertex};
+use crate::setting::Setting;
+use canonical_trees::via_path;
+use road_model::{ArcList, ArcNo, NoMemory, Vertex};
 use std::alloc::Global;
 
 /// The path through a vertex.
@@ -17,16 +18,16 @@ pub(crate) struct Candidate {
     pub(crate) arcs: ArcList,
 }
 
-/// The candidate of a vertex, if its path is within the bound. The lengths are known before the path is.
+/// The candidate of a vertex, if its path is within the reach. The lengths are known before the path is.
 pub(crate) fn candidate_of(
     alloc: Global,
-    pair: &TreePair<'_>,
+    setting: &Setting<'_>,
     v: Vertex,
-    bound: u64,
 ) -> Result<Option<Candidate>, NoMemory>
-    requires { pair.now.radius ≡ Some bound }
-    ensures { IfOk result (FindsCandidate pair.now.graph pair.now.source pair.now.target bound v) }
+    ensures { IfOk result
+        (FindsCandidate setting.now.graph setting.now.query.from setting.now.query.to setting.now.reach v) }
 {
+    let pair = setting.pair;
     let Some(near) = pair.from_label(v) else {
         return Ok(None);
     };
@@ -34,7 +35,7 @@ pub(crate) fn candidate_of(
         return Ok(None);
     };
     let length = near + left;
-    if length > bound {
+    if length > setting.reach {
         return Ok(None);
     }
     let Some(arcs) = via_path(alloc, pair, v)? else {
@@ -54,10 +55,12 @@ fn are_same(a: &[ArcNo], b: &[ArcNo]) -> bool
     a == b
 }
 
-pub(crate) fn is_optimum(candidate: &Candidate, optimum: &Optimum) -> bool
-    requires { candidate.now.arcs ≡ optimum.now.arcs → candidate.now.length ≡ optimum.now.length }
-    ensures { IsTrue result ↔ (candidate.now.arcs ≡ optimum.now.arcs) }
+pub(crate) fn is_optimum(setting: &Setting<'_>, candidate: &Candidate) -> bool
+    requires { candidate.now.arcs ≡ setting.now.optimum.arcs
+        → candidate.now.length ≡ setting.now.optimum.length }
+    ensures { IsTrue result ↔ (candidate.now.arcs ≡ setting.now.optimum.arcs) }
 {
+    let optimum = setting.optimum;
     candidate.length == optimum.length
         && are_same(candidate.arcs.as_slice(), optimum.arcs.as_slice())
 }

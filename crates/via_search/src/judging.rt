@@ -2,15 +2,15 @@
 
 ghost use Rattle.std.specs.Prelude.{◌≡◌, ◌<◌, ◌^◌, Some, IfOk, length, slice_index, Contains};
 ghost use Rattle.road_model.specs.Dist.{HaveSameDist};
-ghost use Rattle.via_search.specs.Candidates.{IsPosed, IsCandidate};
+ghost use Rattle.via_search.specs.Candidates.{IsCandidate};
 ghost use Rattle.via_search.specs.Judging.{IsJudged, IsTried, IsPassing, StaysCounted};
 ghost use Rattle.via_search.specs.Asks.{AsksOnce};
 
 use crate::candidates::Candidate;
-use forward_star::Star;
+use crate::setting::Setting;
 use local_optimality::{is_local, local};
 use path_tests::{is_stretch_bounded, shared, stretch, within_share};
-use road_model::{NoMemory, Optimum, Oracle, Pair, Query, Trail};
+use road_model::{NoMemory, Oracle, Pair, Trail};
 use std::alloc::Global;
 
 /// The first test that a path fails, in the order of what they cost, or that it passes all.
@@ -45,27 +45,27 @@ fn place_of(trail: &Trail, near: u64) -> u32
 
 pub(crate) fn judge<O: Oracle>(
     alloc: Global,
-    star: &Star,
+    setting: &Setting<'_>,
     oracle: &mut O,
-    query: &Query,
-    optimum: &Optimum,
     candidate: &Candidate,
 ) -> Result<Judged, NoMemory>
-    requires posed { IsPosed star.now query.now optimum.now }
-    requires same { HaveSameDist star.now (O.graph oracle.old) }
-    requires candidate { IsCandidate star.now query.now.from query.now.to candidate.now }
-    ensures judged { IfOk result (IsJudged star.now query.now optimum.now.arcs candidate.now.arcs) }
+    requires same { HaveSameDist setting.now.graph (O.graph oracle.old) }
+    requires candidate { IsCandidate setting.now.graph setting.now.query.from setting.now.query.to candidate.now }
+    ensures judged { IfOk result
+        (IsJudged setting.now.graph setting.now.query setting.now.optimum.arcs candidate.now.arcs) }
     ensures same { O.graph oracle.new ≡ O.graph oracle.old }
     ensures counted { StaysCounted (O.asked oracle.old) (O.asked oracle.new) }
 {
+    let query = setting.query;
+    let optimum = setting.optimum;
     if !query.epsilon.stretches(candidate.length, optimum.length) {
         return Ok(Judged::Long);
     }
-    let sum = shared(star, &optimum.arcs, &candidate.arcs);
+    let sum = shared(setting.star, &optimum.arcs, &candidate.arcs);
     if !within_share(sum, &query.gamma, optimum.length) {
         return Ok(Judged::Shared(sum));
     }
-    match put_to_oracle(alloc, star, oracle, query, optimum, candidate)? {
+    match put_to_oracle(alloc, setting, oracle, candidate)? {
         Tried::Local(pair) => Ok(Judged::Local(pair)),
         Tried::Stretch(pair) => Ok(Judged::Stretch(pair)),
         Tried::Passed => Ok(Judged::Passed(sum)),
@@ -86,22 +86,22 @@ pub(crate) enum Tried {
 /// The tests that ask the oracle. They are put at the place of the candidate's via.
 pub(crate) fn put_to_oracle<O: Oracle>(
     alloc: Global,
-    star: &Star,
+    setting: &Setting<'_>,
     oracle: &mut O,
-    query: &Query,
-    optimum: &Optimum,
     candidate: &Candidate,
 ) -> Result<Tried, NoMemory>
-    requires posed { IsPosed star.now query.now optimum.now }
-    requires same { HaveSameDist star.now (O.graph oracle.old) }
-    requires candidate { IsCandidate star.now query.now.from query.now.to candidate.now }
-    ensures tried { IfOk result (IsTried star.now query.now optimum.now.arcs candidate.now.arcs) }
+    requires same { HaveSameDist setting.now.graph (O.graph oracle.old) }
+    requires candidate { IsCandidate setting.now.graph setting.now.query.from setting.now.query.to candidate.now }
+    ensures tried { IfOk result
+        (IsTried setting.now.graph setting.now.query setting.now.optimum.arcs candidate.now.arcs) }
     ensures same { O.graph oracle.new ≡ O.graph oracle.old }
     ensures counted { StaysCounted (O.asked oracle.old) (O.asked oracle.new) }
-    ensures asks { AsksOnce star.now query.now.from query.now.to candidate.now.arcs candidate.now.via
-        (O.asked oracle.old) (O.asked oracle.new) }
+    ensures asks { AsksOnce setting.now.graph setting.now.query.from setting.now.query.to candidate.now.arcs
+        candidate.now.via (O.asked oracle.old) (O.asked oracle.new) }
 {
-    let trail = Trail::of(alloc, star, query.from, candidate.arcs.as_slice())?;
+    let query = setting.query;
+    let optimum = setting.optimum;
+    let trail = Trail::of(alloc, setting.star, query.from, candidate.arcs.as_slice())?;
     let via_at = place_of(&trail, candidate.near);
     if let Some(pair) = local(oracle, &trail, via_at, &query.alpha, optimum.length)? {
         return Ok(Tried::Local(pair));
@@ -115,22 +115,22 @@ pub(crate) fn put_to_oracle<O: Oracle>(
 /// Whether a path passes the same tests. It asks no more than they do, and looks for no least pair.
 pub(crate) fn passes_oracle<O: Oracle>(
     alloc: Global,
-    star: &Star,
+    setting: &Setting<'_>,
     oracle: &mut O,
-    query: &Query,
-    optimum: &Optimum,
     candidate: &Candidate,
 ) -> Result<bool, NoMemory>
-    requires posed { IsPosed star.now query.now optimum.now }
-    requires same { HaveSameDist star.now (O.graph oracle.old) }
-    requires candidate { IsCandidate star.now query.now.from query.now.to candidate.now }
-    ensures passing { IfOk result (IsPassing star.now query.now optimum.now.arcs candidate.now.arcs) }
+    requires same { HaveSameDist setting.now.graph (O.graph oracle.old) }
+    requires candidate { IsCandidate setting.now.graph setting.now.query.from setting.now.query.to candidate.now }
+    ensures passing { IfOk result
+        (IsPassing setting.now.graph setting.now.query setting.now.optimum.arcs candidate.now.arcs) }
     ensures same { O.graph oracle.new ≡ O.graph oracle.old }
     ensures counted { StaysCounted (O.asked oracle.old) (O.asked oracle.new) }
-    ensures asks { AsksOnce star.now query.now.from query.now.to candidate.now.arcs candidate.now.via
-        (O.asked oracle.old) (O.asked oracle.new) }
+    ensures asks { AsksOnce setting.now.graph setting.now.query.from setting.now.query.to candidate.now.arcs
+        candidate.now.via (O.asked oracle.old) (O.asked oracle.new) }
 {
-    let trail = Trail::of(alloc, star, query.from, candidate.arcs.as_slice())?;
+    let query = setting.query;
+    let optimum = setting.optimum;
+    let trail = Trail::of(alloc, setting.star, query.from, candidate.arcs.as_slice())?;
     let via_at = place_of(&trail, candidate.near);
     let optimal = is_local(oracle, &trail, via_at, &query.alpha, optimum.length)?;
     if !optimal {

@@ -12,6 +12,7 @@ mod judging;
 mod memory;
 mod planning;
 mod routes;
+mod setting;
 mod verdicts;
 
 pub use memory::PlanMemory;

@@ -5,7 +5,8 @@ ghost use Rattle.road_model.specs.Graph.{IsVertex};
 ghost use Rattle.road_model.specs.Dist.{HaveSameDist};
 ghost use Rattle.road_model.specs.Answers.{IsListing};
 ghost use Rattle.plateau_finder.specs.Plateaus.{IsListed, ArePlateaus};
-ghost use Rattle.via_search.specs.Candidates.{IsPosed, IsBoundOf, pair_of};
+ghost use Rattle.via_search.specs.Candidates.{IsPosed, IsBoundOf};
+ghost use Rattle.via_search.specs.Settings.{trees_of};
 ghost use Rattle.via_search.specs.Judging.{StaysCounted};
 ghost use Rattle.via_search.specs.Asks.{AsksFor, AsksAtMost, AsksForPlan};
 ghost use Rattle.via_search.specs.Listing.{IsRouteOf};
@@ -13,7 +14,8 @@ ghost use Rattle.via_search.specs.Listing.{IsRouteOf};
 use crate::candidates::candidate_of;
 use crate::judging::passes_oracle;
 use crate::memory::PlanMemory;
-use canonical_trees::{TreePair, trees_in};
+use crate::setting::Setting;
+use canonical_trees::trees_in;
 use forward_star::Star;
 use path_tests::within_share;
 use plateau_finder::{Plateau, plateaus_within};
@@ -27,32 +29,28 @@ use tree_tests::{Refusals, SharedSums, SumTables, WayTables};
 /// the vertices of its plateau alone.
 fn route_of<O: Oracle>(
     alloc: Global,
-    star: &Star,
-    pair: &TreePair<'_>,
+    setting: &Setting<'_>,
     oracle: &mut O,
-    query: &Query,
-    optimum: &Optimum,
-    bound: u64,
     sums: &mut SharedSums<'_>,
     ways: &mut Refusals<'_>,
     plateau: &Plateau,
 ) -> Result<Option<Route>, NoMemory>
-    requires posed { IsPosed star.now query.now optimum.now }
-    requires same { HaveSameDist star.now (O.graph oracle.old) }
-    requires bound { IsBoundOf query.now optimum.now.length bound }
-    requires trees { pair.now ≡ pair_of star.now query.now bound }
-    requires sums { sums.old ≡ record { trees = pair_of star.now query.now bound; optimum = optimum.now.arcs } }
-    requires ways { ways.old ≡ pair_of star.now query.now bound }
-    requires listed { IsListed (pair_of star.now query.now bound) (Some bound) plateau.now }
+    requires same { HaveSameDist setting.now.graph (O.graph oracle.old) }
+    requires bound { IsBoundOf setting.now.query setting.now.optimum.length setting.now.reach }
+    requires sums { sums.old ≡ record { trees = trees_of setting.now; optimum = setting.now.optimum.arcs } }
+    requires ways { ways.old ≡ trees_of setting.now }
+    requires listed { IsListed (trees_of setting.now) (Some setting.now.reach) plateau.now }
     ensures route { IfOk result
-        (IsRouteOf star.now query.now optimum.now.arcs (pair_of star.now query.now bound) plateau.now) }
+        (IsRouteOf setting.now.graph setting.now.query setting.now.optimum.arcs (trees_of setting.now) plateau.now) }
     ensures sums { sums.new ≡ sums.old }
     ensures ways { ways.new ≡ ways.old }
     ensures same { O.graph oracle.new ≡ O.graph oracle.old }
     ensures counted { StaysCounted (O.asked oracle.old) (O.asked oracle.new) }
-    ensures asks { AsksFor star.now query.now.from query.now.to bound optimum.now.arcs plateau.now.least
-        (O.asked oracle.old) (O.asked oracle.new) }
+    ensures asks { AsksFor setting.now.graph setting.now.query.from setting.now.query.to setting.now.reach
+        setting.now.optimum.arcs plateau.now.least (O.asked oracle.old) (O.asked oracle.new) }
 {
+    let query = setting.query;
+    let optimum = setting.optimum;
     if plateau.last.number() == query.to.number() {
         return Ok(None);
     }
@@ -66,10 +64,10 @@ fn route_of<O: Oracle>(
     if ways.refuses_before(plateau.first, query, optimum.length)? {
         return Ok(None);
     }
-    let Some(candidate) = candidate_of(alloc, pair, plateau.least, bound)? else {
+    let Some(candidate) = candidate_of(alloc, setting, plateau.least)? else {
         unreachable!()
     };
-    if !passes_oracle(alloc, star, oracle, query, optimum, &candidate)? {
+    if !passes_oracle(alloc, setting, oracle, &candidate)? {
         return Ok(None);
     }
     Ok(Some(Route {
@@ -86,34 +84,26 @@ fn route_of<O: Oracle>(
 fn routes_of<O: Oracle>(
     alloc: Global,
     memory: &mut PlanMemory,
-    star: &Star,
-    pair: &TreePair<'_>,
+    setting: &Setting<'_>,
     oracle: &mut O,
-    query: &Query,
-    optimum: &Optimum,
-    bound: u64,
     plateaus: &[Plateau],
 ) -> Result<RouteList, NoMemory>
-    requires posed { IsPosed star.now query.now optimum.now }
-    requires same { HaveSameDist star.now (O.graph oracle.old) }
-    requires bound { IsBoundOf query.now optimum.now.length bound }
-    requires trees { pair.now ≡ pair_of star.now query.now bound }
-    requires plateaus { ArePlateaus (pair_of star.now query.now bound) (Some bound) plateaus.now }
-    ensures listing { IfOk result (IsListing star.now query.now optimum.now.arcs) }
+    requires same { HaveSameDist setting.now.graph (O.graph oracle.old) }
+    requires bound { IsBoundOf setting.now.query setting.now.optimum.length setting.now.reach }
+    requires plateaus { ArePlateaus (trees_of setting.now) (Some setting.now.reach) plateaus.now }
+    ensures listing { IfOk result (IsListing setting.now.graph setting.now.query setting.now.optimum.arcs) }
     ensures same { O.graph oracle.new ≡ O.graph oracle.old }
     ensures counted { StaysCounted (O.asked oracle.old) (O.asked oracle.new) }
-    ensures asks { AsksAtMost star.now query.now.from query.now.to bound optimum.now.arcs
-        (O.asked oracle.old) (O.asked oracle.new) }
+    ensures asks { AsksAtMost setting.now.graph setting.now.query.from setting.now.query.to setting.now.reach
+        setting.now.optimum.arcs (O.asked oracle.old) (O.asked oracle.new) }
 {
     let sum_tables = mem::replace(&mut memory.sums, SumTables::new(alloc));
     let way_tables = mem::replace(&mut memory.ways, WayTables::new(alloc));
-    let mut sums = SharedSums::new(alloc, pair, &optimum.arcs, sum_tables)?;
-    let mut ways = Refusals::new(pair, way_tables)?;
+    let mut sums = SharedSums::new(alloc, setting.pair, &setting.optimum.arcs, sum_tables)?;
+    let mut ways = Refusals::new(setting.pair, way_tables)?;
     let mut routes = RouteList::new(alloc);
     for plateau in plateaus {
-        if let Some(route) = route_of(
-            alloc, star, pair, oracle, query, optimum, bound, &mut sums, &mut ways, plateau,
-        )? {
+        if let Some(route) = route_of(alloc, setting, oracle, &mut sums, &mut ways, plateau)? {
             routes.push(route)?;
         }
     }
@@ -150,17 +140,8 @@ pub(crate) fn alternatives<O: Oracle>(
         Some(bound),
     )?;
     let plateaus = plateaus_within(alloc, &pair, bound)?;
-    let routes = routes_of(
-        alloc,
-        memory,
-        star,
-        &pair,
-        oracle,
-        query,
-        optimum,
-        bound,
-        plateaus.as_slice(),
-    )?;
+    let setting = Setting::of(star, &pair, query, optimum, bound);
+    let routes = routes_of(alloc, memory, &setting, oracle, plateaus.as_slice())?;
     memory.trees = pair.into_memory();
     Ok(routes)
 }

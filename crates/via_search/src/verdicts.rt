@@ -5,7 +5,7 @@ ghost use Rattle.road_model.specs.Graph.{IsVertex};
 ghost use Rattle.road_model.specs.Dist.{IsDist, HaveSameDist};
 ghost use Rattle.road_model.specs.Fraction.{Stretches};
 ghost use Rattle.road_model.specs.Verdicts.{IsVerdict, IsVerdictOf};
-ghost use Rattle.via_search.specs.Candidates.{IsPosed, pair_of};
+ghost use Rattle.via_search.specs.Settings.{trees_of};
 ghost use Rattle.via_search.specs.Judging.{StaysCounted};
 ghost use Rattle.via_search.specs.Through.{HasPathThrough, IsLengthThrough, NamesPath};
 ghost use Rattle.plateau_finder.specs.Plateaus.{IsInBoth};
@@ -13,10 +13,11 @@ ghost use Rattle.plateau_finder.specs.Plateaus.{IsInBoth};
 use crate::candidates::{candidate_of, is_optimum};
 use crate::judging::{Judged, judge};
 use crate::memory::PlanMemory;
-use canonical_trees::{TreePair, optimum_in, trees_in};
+use crate::setting::Setting;
+use canonical_trees::{optimum_in, trees_in};
 use forward_star::Star;
 use plateau_finder::plateau_through;
-use road_model::{NoMemory, Optimum, Oracle, Query, Verdict, Vertex};
+use road_model::{NoMemory, Oracle, Query, Verdict, Vertex};
 use std::alloc::Global;
 
 /// A distance of the star, by an oracle that may be of another graph.
@@ -64,50 +65,47 @@ fn length_through<O: Oracle>(
 }
 
 /// The name of the path through a vertex: the least vertex of its plateau.
-fn name_of(pair: &TreePair<'_>, via: Vertex) -> Vertex
-    requires { IsInBoth pair.now via }
-    ensures { NamesPath pair.now via result }
+fn name_of(setting: &Setting<'_>, via: Vertex) -> Vertex
+    requires { IsInBoth (trees_of setting.now) via }
+    ensures { NamesPath (trees_of setting.now) via result }
 {
-    let Some(plateau) = plateau_through(pair, via) else {
+    let Some(plateau) = plateau_through(setting.pair, via) else {
         unreachable!()
     };
     plateau.least
 }
 
-/// The verdict on a vertex whose path is `length` long, within the stretch bound. The trees reach no farther than
-/// the path does.
+/// The verdict on a vertex whose path is within the stretch bound. The trees reach no farther than the path does.
 fn verdict_on_path<O: Oracle>(
     alloc: Global,
-    star: &Star,
-    pair: &TreePair<'_>,
+    setting: &Setting<'_>,
     oracle: &mut O,
-    query: &Query,
-    optimum: &Optimum,
     via: Vertex,
-    length: u64,
 ) -> Result<Verdict, NoMemory>
-    requires posed { IsPosed star.now query.now optimum.now }
-    requires target { IsVertex star.now.vertices query.now.to }
-    requires through { HasPathThrough star.now query.now.from query.now.to via length }
-    requires near { Stretches query.now.epsilon length optimum.now.length }
-    requires pair { pair.now ≡ pair_of star.now query.now length }
-    requires same { HaveSameDist star.now (O.graph oracle.old) }
-    ensures verdict { IfOk result (IsVerdict star.now query.now optimum.now.arcs via) }
+    requires target { IsVertex setting.now.graph.vertices setting.now.query.to }
+    requires through { HasPathThrough setting.now.graph setting.now.query.from setting.now.query.to via
+        setting.now.reach }
+    requires near { Stretches setting.now.query.epsilon setting.now.reach setting.now.optimum.length }
+    requires same { HaveSameDist setting.now.graph (O.graph oracle.old) }
+    ensures verdict { IfOk result
+        (IsVerdict setting.now.graph setting.now.query setting.now.optimum.arcs via) }
     ensures same { O.graph oracle.new ≡ O.graph oracle.old }
     ensures counted { StaysCounted (O.asked oracle.old) (O.asked oracle.new) }
 {
-    let Some(candidate) = candidate_of(alloc, pair, via, length)? else {
+    // Reading a field tells the proof what each setting keeps.
+    let _posed = setting.optimum;
+    let Some(candidate) = candidate_of(alloc, setting, via)? else {
         unreachable!()
     };
-    if is_optimum(&candidate, optimum) {
+    if is_optimum(setting, &candidate) {
         return Ok(Verdict::Optimum);
     }
-    match judge(alloc, star, oracle, query, optimum, &candidate)? {
+    match judge(alloc, setting, oracle, &candidate)? {
         Judged::Long => unreachable!(),
         Judged::Shared(sum) => Ok(Verdict::Shared(sum)),
         Judged::Local(failing) => Ok(Verdict::Local(failing)),
         Judged::Stretch(failing) => Ok(Verdict::Stretch(failing)),
-        Judged::Passed(_) => Ok(Verdict::Listed(name_of(pair, via))),
+        Judged::Passed(_) => Ok(Verdict::Listed(name_of(setting, via))),
     }
 }
 
@@ -151,7 +149,8 @@ pub fn verdict_in<O: Oracle>(
         query.to,
         Some(length),
     )?;
-    let found = verdict_on_path(alloc, star, &pair, oracle, query, &optimum, via, length)?;
+    let setting = Setting::of(star, &pair, query, &optimum, length);
+    let found = verdict_on_path(alloc, &setting, oracle, via)?;
     memory.trees = pair.into_memory();
     Ok(Some(found))
 }

@@ -1,3 +1,6 @@
+use Rattle.std.proofs.Common.{subst}
+use Rattle.road_model.specs.Verdicts.{IsVerdict}
+use Rattle.via_search.specs.Settings.{Givens}
 use Rattle.via_search.proofs.Posed.{posed_of}
 use Rattle.via_search.proofs.Judgements.{long_of_length, not_stretched}
 use Rattle.via_search.proofs.PathsThrough.{through_some}
@@ -13,4 +16,13 @@ returns-then-not-stretches-clause-verdict g c =
       optimum = c.in-Some.optimum.arcs;
       is_optimum = posed.best.0;
       is_verdict = long_of_length net q c.in-Some.optimum c.args.via c.in-Some-2.length posed through (not_stretched q.epsilon c.in-Some-2.length c.in-Some.optimum.length c.stretches.result c.stretches.ensures c.if-not-stretches.true);
+    }
+
+pub returns-clause-verdict : goal.returns-clause-verdict
+returns-clause-verdict g c =
+    let posed = posed_of c.args.star.now c.args.query.now c.in_ok-optimum.field-0 c.in-Some.optimum c.graph-limits.ensures.limits c.requires.source c.in-Some.is c.in_ok-optimum.ensures.found c.in_ok-optimum.ensures.short in
+    record {
+      optimum = c.in-Some.optimum.arcs;
+      is_optimum = posed.best.0;
+      is_verdict = subst (λ (y : Givens). IsVerdict y.graph y.query y.optimum.arcs c.args.via c.in_ok-found.found) c.of-setting.ensures c.in_ok-found.ensures.verdict;
     }
