@@ -43,7 +43,7 @@ pub rooted_to : (g : Graph) (t : ℕ) (radius : Option ℕ) (b : Reached) → Is
 rooted_to g t radius b tree =
     rooted_by_labels g t radius b.labels tree.limits.is_graph (omega (arith, tree.limits.few_arcs)) tree.ball.labelled
 
--- a label and its want, as distances
+-- a label is a distance, and where there is none the vertex is outside
 pub label_of : (g : Graph) (s v : ℕ) (radius : Option ℕ) (labels : List (Option ℕ)) (o : Option ℕ) → IsLabelled g s radius labels → label_at labels v ≡ o → IsLabel g radius s v o
 label_of g s v radius labels None labelled is = labelled.far v is
 label_of g s v radius labels (Some d) labelled is = labelled.near v d is

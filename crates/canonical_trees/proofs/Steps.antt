@@ -7,7 +7,7 @@ use Rattle.road_model.specs.declared.rows.ArcRow.{ArcRow}
 use Rattle.road_model.specs.declared.network.Step.{Step}
 use Rattle.road_model.specs.Graph.{Graph, arc_at, steps_from, step_of, step_at}
 
--- the arc behind a step: the k-th of these rows, where the first has the number first
+-- the arc that a step stands for: the k-th of these rows, where the first has the number first
 pub record IsRowOf (v first : ℕ) (rows : List ArcRow) (s : Step) : Type 0 where
   pub place : ℕ
   pub row : ArcRow

@@ -105,7 +105,7 @@ none_left g t v left i labels rooted other label before none =
     none_on_walk g t v left i labels dist.0.path rooted other label before none
     (shortest_of_dist g v t left dist.0.path dist dist.0.walk dist.0.long)
 
--- the canonical walk from a step's head, behind the step, is canonical
+-- a step, and then the canonical walk from its head, is canonical
 pub IsLast-step : (g : Graph) (t v : ℕ) (labels : List (Option ℕ)) (s : Step) (p : List ℕ) → IsRooted g t labels → IsLeastStep g t labels v s → IsLast g s.head p t → IsLast g v (s.arc ∷ p) t
 IsLast-step g t v labels s p rooted h last =
     IsLast-cons g t v s.arc h.row h.near p rooted.sound h.least

@@ -1,9 +1,9 @@
 -- Going down to a vertex by its distances: the arcs that a walk takes there.
 --   IsTight g t v a r near       the arc a, of the row r, is the first of some shortest walk from v to t; near is
---                                the distance behind it
+--                                the distance from its head
 --   IsLeastTight g t v a r near  and no arc of a lower number is one
 --   IsRooted g t labels          each label is the distance to t, and whatever is nearer than a label has one
---   HasTightLabel labels left s  the label behind the step s, and its length, make what is left
+--   HasTightLabel labels left s  the label of the head of s and the length of s make what is left
 --   IsLeastStep g t labels v s   the step s is the least tight arc out of v, which has a label and isn't t
 --   IsStepDown                   Some: such a step; None: v is t, or has no label
 --   Adds g t v old new           the list goes on with the canonical path from v to t

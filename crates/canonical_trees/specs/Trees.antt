@@ -11,9 +11,10 @@
 --                          None: v is s, or outside
 --   IsToStep g r v t x     Some: the first arc of the canonical path from v, which isn't t, to t;
 --                          None: v is t, or outside
---   IsFromArc, IsToArc     the same of the arc's number alone
+--   IsLastStep, IsFirstStep  the same where there is such a step: v is inside, and isn't the root
+--   IsFromArc, IsToArc, IsLastArc, IsFirstArc   the same of the arc's number alone
 --   IsViaPath ts v p       Some p: v is inside both trees, and p is the path through it; None: v is outside one
---   IsTreeFrom, IsTreeTo   the ball that a tree keeps is the one from its root, or to its root
+--   IsTreeFrom, IsTreeTo   the ball that a tree keeps is the one from its root, or the one to it
 --   IsSearched r q         q is the radius to search by: none where r is above every distance
 use Rattle.std.specs.Prelude.{◌≡◌, ◌≢◌, ◌<◌, ◌≤◌, ◌⊎◌, ◌^◌, ℕ, List, [], ◌∷◌, ◌++◌, Option, Some, None, Contains}
 use Rattle.std.specs.List.Sorted.{IsStrictlyIncreasing}

@@ -7,7 +7,7 @@ ghost use Rattle.tree_search.specs.Ball.{label_at};
 use road_model::{ArcNo, Network, NoMemory, Step, Vertex};
 use tree_search::Labels;
 
-/// The label behind the step, and its length, make what is left.
+/// The label of the step's head and the step's length make what is left.
 #[inline]
 fn is_tight(labels: &Labels<'_>, step: &Step, left: u64) -> bool
     ensures { IsTrue result ↔ HasTightLabel labels.now left step.now }

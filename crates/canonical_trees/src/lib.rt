@@ -1,7 +1,8 @@
 //! The canonical shortest paths from a source and to a target: of all shortest walks the one whose arc numbers,
 //! read backwards from a vertex that is reached, or forwards to the target, are least in dictionary order.
 //!
-//! A tree keeps its labels alone, in a memory that serves many queries. The arc of a vertex is found by a scan of its arcs, at the first that is tight.
+//! A tree keeps labels and no arcs, in a memory that serves many queries. The arc of a vertex is found by a scan of
+//! its arcs, at the first that is tight.
 #![tactic(auto)]
 
 mod descent;

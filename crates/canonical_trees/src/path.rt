@@ -50,8 +50,8 @@ pub fn via_path(alloc: Global, pair: &TreePair<'_>, v: Vertex) -> Result<Option<
     Ok(Some(ArcList::from_vec(arcs)))
 }
 
-/// The canonical shortest path from `s` to `t`; none where no walk leads there. A search that stops at `t`, and 8
-/// bytes a vertex.
+/// The canonical shortest path from `s` to `t`; none where no walk leads there. It takes a search that stops at `t`,
+/// and 8 bytes a vertex.
 pub fn optimum(
     alloc: Global,
     star: &Star,

@@ -9,7 +9,7 @@ use std::test::Fail;
 
 type Arc = (u32, u32, u64);
 
-// Two shortest ways lead from 1 to 3, and 5 is reached from nowhere.
+// Two shortest walks lead from 1 to 3, and 5 is reached from nowhere.
 static A: [Arc; 6] = [
     (1, 2, 10),
     (2, 6, 10),
@@ -19,7 +19,7 @@ static A: [Arc; 6] = [
     (2, 3, 1),
 ];
 
-// Two shortest ways lead from 1 to 4.
+// Two shortest walks lead from 1 to 4.
 static D: [Arc; 4] = [(1, 2, 5), (3, 4, 5), (1, 3, 5), (2, 4, 5)];
 
 // Parallel arcs, and a loop.

@@ -69,7 +69,7 @@ fn searched(radius: Option<u64>) -> Option<u64>
     }
 }
 
-/// The tree from `s`. None as its radius is no limit. Takes the time of a search of the ball, and 8 bytes a vertex.
+/// The tree from `s`; without a radius it has no limit. Takes the time of a search of the ball, and 8 bytes a vertex.
 pub fn tree_from<'a>(
     alloc: Global,
     star: &'a Star,
@@ -109,7 +109,7 @@ fn tree_from_in<'a>(
     })
 }
 
-/// The tree to `t`. None as its radius is no limit. Takes the time of a search of the ball, and 8 bytes a vertex.
+/// The tree to `t`; without a radius it has no limit. Takes the time of a search of the ball, and 8 bytes a vertex.
 pub fn tree_to<'a>(
     alloc: Global,
     star: &'a Star,
@@ -149,8 +149,8 @@ fn tree_to_in<'a>(
     })
 }
 
-/// The tree from `s` and the tree to `t`, of one radius. None as the radius is no limit. Takes the time of the two
-/// searches, and 16 bytes a vertex.
+/// The tree from `s` and the tree to `t`, of one radius; without a radius they have no limit. Takes the time of the
+/// two searches, and 16 bytes a vertex.
 pub fn trees<'a>(
     alloc: Global,
     star: &'a Star,

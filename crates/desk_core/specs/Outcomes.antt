@@ -1,6 +1,7 @@
 -- What the tests of a request come to.
 --   IsOutcome limits request result   its outcome, and what is asked speaks of vertices and arcs that are there
---   vertex_in, ratio_in, query_in     a vertex, a ratio of at most a cap, and a query from their numbers, where these are in range
+--   vertex_in, ratio_in, query_in     a vertex, a ratio of at most a cap, and a query from their numbers, where these are
+--                                     in range
 use Rattle.std.specs.Prelude.{◌≡◌, ℕ, [], ◌∷◌, Option, Some, None, Result, Ok, Err, IfOk, if◌then◌else◌}
 use Rattle.road_model.specs.declared.answer.Query.{Query}
 use Rattle.road_model.specs.declared.request.CursorQuery.{CursorQuery}

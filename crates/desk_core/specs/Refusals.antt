@@ -8,9 +8,15 @@
 --   arc       the arc is one of the graph's
 --   length    the length is 1 to 4294967295
 --   full      the version isn't the last that there may be
+--   is_within low high n   n is one of the numbers from low to high
+--   are_vertices limits vs   each of these is a vertex of the graph
+--   is_ratio cap r       a numerator and a denominator pass the test of a ratio that is at most cap
+--   are_ratios q         the three ratios of a query pass it
+--   is_newer since n     a version newer than n was asked for
 --   passed tests asked   the refusal of the first test that fails, or else what is asked
 --   best_tests, route_tests, next_tests, why_tests   the tests of these requests
 --   outcome limits r     the refusal of a request, or else what it asks, by numbers that are in range
+--   AreEnds limits s t   the source and the target of a query are vertices of the graph
 --   IsInRange limits a   what is asked speaks of vertices and arcs that are there
 use Rattle.std.specs.Prelude.{ℕ, ◌*◌, ◌==◌, ◌&&◌, not, Bool, false, true, List, [], ◌∷◌, Option, Some, None, Result, Ok, Err, nat_lt, nat_le, if◌then◌else◌}
 use Rattle.road_model.specs.declared.request.Request.{Request}

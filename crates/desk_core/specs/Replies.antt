@@ -2,11 +2,18 @@
 --   numbers_in q      the numbers of a query, as they were given
 --   more_of ..        the cursor of the page after a page, where items stand after it
 --   more_in r         the cursor that a reply shows
+--   IsSpanReply ..    the reply that shows a page of a plan of so many items
 --   IsPageReply ..    the reply that shows a page of a plan, or that no path exists
+--   best_reply, why_reply   the reply that shows an optimum, or a verdict; or that no path exists
+--   IsBest ..         the reply shows the optimum of the graph
+--   IsPaged ..        the reply shows a page of the answer of the graph, and the plan shown is that answer
+--   IsWhy ..          the reply shows the verdict on the via vertex
 --   IsAnswerTo g state asked reply shown next   the reply says what was asked of the version that it names, shown is the
 --                     plan that a page is of, and the state goes on to the next
 --   may_refuse_memory the reply may be that memory was refused: not where only the version is asked for, or where the
 --                     answer is kept
+--   IsMemoryRefused ..   that memory was refused is replied, where it may be
+--   IsAnswered ..     what IsStep says, of a request whose tests came to this refusal, or to what is asked
 --   IsStep g state request reply shown next     the reply is the refusal of the request, and the state stays; else it is
 --                     the answer, or that memory was refused and the state stays; g is the graph of version 1
 use Rattle.std.specs.Prelude.{◌≡◌, ℕ, ◌+◌, ◌⊎◌, not, Bool, true, false, IsTrue, length, Option, Some, None, Result, Ok, Err, if◌then◌else◌}
@@ -43,7 +50,7 @@ numbers_in q = record {
   epsilon = (q.epsilon.num, q.epsilon.den);
 }
 
--- whether a reply shows a page, and if items stand after it
+-- only a page that items stand after shows one, of the next page
 abbrev pub more_in : Reply → Option Cursor
 more_in (reply.Page number span more) = more
 more_in r = None

@@ -4,10 +4,12 @@
 --   Follow request turns pages  among the turns, in their order: a page that answers the request, the page that its cursor
 --                       asks for, and so on up to a page without a cursor; each with the number of its version
 --   paths_in o others   the paths of an answer: its optimum, and then its alternatives
+--   spans_of pages      the items of these pages
 --   PagesJoin g state last q since pages   the pages are of one version, which is no older than the newest at the
 --                       first state and than what was asked for, and joined they are its whole answer
 --   IsReplyChain number q size offset plan replies   the pages of a plan from an offset on, each where the cursor of
 --                       the one before points, up to one without a cursor
+--   HasReplyChain ..    there are such pages from the first item on, no more than the answer has paths
 use Rattle.std.specs.Prelude.{◌≡◌, ℕ, ◌+◌, ◌≤◌, ◌⊎◌, List, [], ◌∷◌, map, length, Option, MatchOption}
 use Rattle.std.specs.List.{AllByRecursion}
 use Rattle.road_model.specs.declared.answer.Optimum.{Optimum}

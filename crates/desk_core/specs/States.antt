@@ -5,10 +5,13 @@
 --   at_start room       nothing yet, with room for so many answers
 --   newest state        the number of the newest version: version 1 is the graph itself, and each batch makes one more
 --   graph_at g state n  the graph of version n, where g is version 1
+--   same_pair, same_query, same_key   whether two ratios, the numbers of two queries, or two keys are the same
 --   is_kept state key   the answer of this key is kept
 --   used state key      it becomes the last used; where there is no room the one used longest ago goes
 --   key_in number r     the key that a request asks by, where `number` is the pinned version
 --   limits_in g state r what a request is tested against
+--   staging state c     one more change is staged
+--   published state     what is staged becomes the batch of a new version, and nothing is staged
 use Rattle.std.specs.Prelude.{ℕ, ◌+◌, ◌-◌, ◌==◌, ◌&&◌, not, Bool, false, List, [], ◌∷◌, ◌++◌, Option, Some, None, length, take, filter}
 use Rattle.std.specs.List.{list_any}
 use Rattle.road_model.specs.declared.change.Change.{Change}

@@ -59,7 +59,7 @@ digits_pass (d ∷ ds) h =
     let both = and_parts (is_ascii_digit d) (all_ascii_digits ds) h in
     (digit_passes d both.0, digits_pass ds both.1)
 
--- a blank or the line's end behind the digits
+-- a blank or the line's end after the digits
 pub IsNumberField-from : (line : List ℕ) (at to n : ℕ) → at < to → to ≤ length line → to - at ≤ 19 → AreDigits line at to n → (to < length line → is_blank (get_or line to 0) ≡ true) → IsNumberField line at n to
 IsNumberField-from line at to n some within few digits stops =
     let len : length (between at to line) ≡ to - at = length-between line at to within in
@@ -71,7 +71,7 @@ IsNumberField-from line at to n some within few digits stops =
       behind = stops;
     }
 
--- the three numbers, each behind a blank
+-- the three numbers, each after a blank
 pub AreArcFields-from : (line : List ℕ) (tail head len a b c : ℕ) → 2 ≤ length line → get_or line 0 0 ≡ 97 → get_or line 1 0 ≡ 32 → IsNumberField line 2 tail a → a < length line → IsNumberField line (a + 1) head b → b < length line → IsNumberField line (b + 1) len c → length line ≤ c → AreArcFields line tail head len
 unfolding is_comment
 AreArcFields-from line tail head len a b c two first second t at' h bt l past =

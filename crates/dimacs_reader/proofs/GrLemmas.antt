@@ -72,7 +72,7 @@ first_fault-found before more line kind clean found =
     ∙ first_fault-append [] before (line ∷ more) ∙ ap (λ (o : Option GraphFault). option_or o (first_fault before (line ∷ more))) clean
     ∙ first_fault-cons before more line ∙ ap (λ (k : Option GraphKind). or_later before k (first_fault (before ++ line ∷ []) more)) found
 
--- the fault of a line behind what the lines before come to
+-- the fault of a line, by what the lines before come to
 pub fault_at_state : (before : List (List ℕ)) (line : List ℕ) (problem : Option Problem) (count : ℕ) → problem_in before ≡ problem → length (arcs_in before) ≡ count → line_fault problem count line ≡ None → fault_of before line ≡ None
 unfolding fault_of
 fault_at_state before line problem count p n clean =

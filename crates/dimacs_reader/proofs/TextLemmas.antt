@@ -77,7 +77,7 @@ ends_in_number front n fits =
 feedless : (n : ℕ) → n < 2 ^ 64 → HasNoFeed (decimal n)
 feedless n fits = digits_feedless (decimal n) (digits_decimal by_digits n fits)
 
--- a number and what stands behind it
+-- a number and what stands after it
 field_of : (n : ℕ) (rest : List ℕ) → n < 2 ^ 64 → fields_of (decimal n ++ 32 ∷ rest) ≡ decimal n ∷ fields_of rest
 field_of n rest fits = fields_of-field (decimal n) 32 rest (decimal_nonempty n fits) (digits_pass (decimal n) (digits_decimal by_digits n fits)) refl
 

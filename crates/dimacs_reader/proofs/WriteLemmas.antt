@@ -32,7 +32,7 @@ text_upto-more g i row lt e =
     ap (λ (rows : List ArcRow). problem_text g.vertices (length g.arcs) ++ flat_map row_text rows) (take_more g.arcs i row lt ∙ ap (λ (r : ArcRow). take i g.arcs ++ r ∷ []) e)
     ∙ sym (flat_map_more row_text (problem_text g.vertices (length g.arcs)) (take i g.arcs) row)
 
--- one row more is gathered, behind what was sent by then
+-- one row more is gathered, after what was sent by then
 pub gathered_more : (sent later before after line upto now : List ℕ) → sent ++ before ≡ upto → before ≡ later ++ after → now ≡ after ++ line → (sent ++ later) ++ now ≡ upto ++ line
 gathered_more sent later before after line upto now e f h =
     ap (λ (t : List ℕ). (sent ++ later) ++ t) h ∙ sym (append_assoc (sent ++ later) after line)

@@ -1,14 +1,33 @@
 -- The text of a graph file: what it says, and the first thing that is wrong with it.
+--   is_byte b c             there is a byte, and it is c
 --   is_comment line         its first byte that isn't blank is `c`
+--   field_at fields i       the i-th field, counted from 0, or an empty one
+--   is_field fields i word  it is this word
+--   number_at fields i      the number that it is, where it is one
+--   value_at fields i       the same, and 0 where it is none
+--   problem_from fields, arc_from fields   what the fields of a line say, by its first field: a problem, or an arc
 --   problem_of line         what a line `p sp N M` says
 --   arc_of line             the arc of a line `a U V W`
 --   problem_in lines        what the first problem line among these says
 --   arcs_in lines           the arcs of these lines, in their order
---   line_fault              the first check that fails for a line, behind this problem and so many arcs
---   fault_of before line    the same behind these lines
---   first_fault before lines  the first of these lines that has a fault, with its number, where so many lines came before
---   end_fault lines         what is missing behind these lines, which are all
+--   vertices_of problem, arcs_of problem   the numbers of a problem line, and 0 where there is none
+--   first_failing checks    the fault of the first check that fails; each says whether it does, and with which fault
+--   is_above n most         there is a number, and it is above this one
+--   is_zero n               there is a number, and it is 0
+--   is_outside n last       there is a number, and it is none of 1 to last
+--   problem_fault, arc_fault   the first check that fails for the fields of a problem line, or of an arc line
+--   fields_fault            the same of any line that is no comment and not too long
+--   line_fault              the first check that fails for a line, after this problem and so many arcs
+--   fault_of before line    the same after these lines
+--   fault_at before kind    the fault of this kind, at the line after these
+--   or_later before kind later   that fault, where there is one; else the later one
+--   first_fault before lines  the first of these lines that has a fault, with its number, where so many lines came
+--                           before
+--   end_fault lines         what is missing after these lines, which are all
+--   graph_or fault graph    the fault, where there is one; else the graph
 --   graph_of lines          the graph of the file of these lines, or its first fault
+--   long_text lines         the first fault of these lines, where the file is too long and they are those that end
+--                           within the limit; else its length
 --   gr_text text            the same of a whole text
 -- Lines, fields and numbers are cut as the specifications of road_text say. Lines are counted from 1. A
 -- value is meant only where no check before it fails; 0 and the empty list stand in elsewhere.

@@ -1,4 +1,6 @@
--- What is found of one line, behind a problem and a count of arcs.
+-- What is found of one line, after a problem and a count of arcs.
+--   IsProblem      the numbers of a problem line are within the limits
+--   FitsProblem    the arc fits the problem, which has room for one more after so many
 --   row_fault      the first of the last three checks of an arc line, by its numbers
 --   JudgesRow      the finding fits these numbers
 --   JudgesFields   the finding fits the fields of a line that is no comment

@@ -1,6 +1,7 @@
 -- Text on its way to a sink.
 --   pending p   the bytes that were gathered and not written
---   Sends       a front of what was gathered was written, and the rest is still gathered
+--   Sends       Done: a prefix of what was gathered was written, and the rest is still gathered; Failed: a write of it
+--               failed
 use Rattle.std.specs.Prelude.{◌≡◌, ℕ, List, ◌++◌, Option, take}
 use Rattle.road_io.specs.Told.{Told}
 use Rattle.road_io.specs.Sink.{Writes}

@@ -43,7 +43,7 @@ impl Builder {
         }
     }
 
-    /// The fault of this kind at the line behind those so far.
+    /// The fault of this kind at the line after those so far.
     pub(crate) fn fault(&self, kind: GraphKind) -> GraphFault
         requires { self.now.lines < 2 ^ 63 }
         ensures { result ≡ record { line = self.now.lines + 1; kind = kind } }

@@ -22,7 +22,7 @@ pub enum GraphKind {
     LengthZero,
     /// An arc longer than 4294967295.
     LengthLarge,
-    /// An arc line behind as many as the problem line says.
+    /// An arc line after as many as the problem line says.
     TooManyArcs,
     /// The end comes before as many arc lines as the problem line says.
     TooFewArcs,
@@ -37,7 +37,7 @@ pub enum GraphKind {
 }
 
 /// The first fault of a file, with its line, counted from 1. What is missing at the end is missing at
-/// the line behind the last.
+/// the line after the last.
 #[derive(Clone, Copy, Debug, PartialEq, Eq)]
 pub struct GraphFault {
     pub line: u64,

@@ -1,4 +1,4 @@
-//! One line, judged behind what came before it.
+//! One line, judged by what came before it.
 
 ghost use Rattle.std.specs.Prelude.{ℕ, List, Some, ◌≡◌, ◌≢◌, ◌<◌, ◌≤◌, ◌^◌, [], ◌∷◌, length, drop, codes, MatchOption};
 ghost use Rattle.road_text.specs.Fields.{fields_of};
@@ -13,7 +13,7 @@ use crate::line::{Judged, Problem};
 use road_model::{ArcRow, MAX_ARCS, MAX_LENGTH, MAX_VERTICES, Vertex};
 use road_text::{field, first_byte, number};
 
-/// The three fields behind the first one, where there are exactly three.
+/// The three fields after the first one, where there are exactly three.
 fn values(line: &[u8], at: usize) -> Option<(&[u8], &[u8], &[u8])>
     requires { at ≤ length line.now }
     ensures { MatchOption result (length (fields_of (drop at line.now)) ≢ 3)
@@ -42,7 +42,7 @@ fn values(line: &[u8], at: usize) -> Option<(&[u8], &[u8], &[u8])>
     ))
 }
 
-/// A problem line, behind its first field.
+/// A problem line, after its first field.
 fn judge_problem(line: &[u8], at: usize, problem: Option<Problem>) -> Judged
     requires { at ≤ length line.now }
     ensures { (count : ℕ) → JudgesFields problem count (codes "p" ∷ fields_of (drop at line.now)) result }
@@ -71,7 +71,7 @@ fn judge_problem(line: &[u8], at: usize, problem: Option<Problem>) -> Judged
     })
 }
 
-/// An arc line, behind its first field.
+/// An arc line, after its first field.
 fn judge_arc(line: &[u8], at: usize, problem: Option<Problem>, count: usize) -> Judged
     requires { at ≤ length line.now }
     ensures { JudgesFields problem count (codes "a" ∷ fields_of (drop at line.now)) result }
@@ -159,7 +159,7 @@ fn judge_numbers(
     judge_row(vertices as u64, tail, head, length)
 }
 
-/// Judges one line behind a problem and so many arcs.
+/// Judges one line after a problem and so many arcs.
 pub(crate) fn judge(line: &[u8], problem: Option<Problem>, count: usize) -> Judged
     requires { length line.now ≤ MAX_LINE }
     ensures { Judges problem count line.now result }

@@ -15,7 +15,7 @@ use std::alloc::Global;
 
 /// Reads a graph file to its end, or to its first fault.
 ///
-/// It takes 16 bytes for each arc of the problem line and 128 KB beside them, and time in proportion
+/// It takes 16 bytes for each arc of the problem line and 128 KB besides, and time in proportion
 /// to the file. `ReadFault` comes where a read failed and no line that was read whole before it has a
 /// fault, and only there; what was read by then is lost.
 pub fn read_graph<S: Source>(alloc: Global, source: &mut S) -> Result<GraphFile, GraphError>

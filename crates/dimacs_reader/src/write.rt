@@ -114,7 +114,7 @@ impl Pending {
 
 /// Writes the canonical text of a graph, which [`read_graph`](crate::read_graph) reads as that graph.
 ///
-/// It takes no memory. After `Failed` a front of the text is written.
+/// It takes no memory. After `Failed` a prefix of the text is written.
 pub fn write_graph<K: Sink>(sink: &mut K, graph: &GraphFile) -> Put
     ensures writes { Writes (graph_text graph.now) (K.written sink.old) (K.written sink.new) result }
     ensures read_again { gr_text (graph_text graph.now) ≡ Ok graph.now }

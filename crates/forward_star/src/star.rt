@@ -29,7 +29,8 @@ impl Model for Star {
 }
 
 impl Star {
-    /// Lays the arcs out. Linear time; needs the memory of the star beside that of the arc list.
+    /// Lays the arcs out, in linear time. It takes 24 bytes an arc and 8 bytes a vertex besides the arc list, which it
+    /// keeps.
     pub fn build(alloc: Global, graph: GraphFile) -> Result<Star, NoMemory>
         ensures { IfOk result (λ s. s ≡ graph) }
     {
@@ -59,7 +60,7 @@ impl Star {
         self.forward.step(v, i)
     }
 
-    /// The `i`-th arc into `v`, counted from 0, by rising arc number; none behind the last. Its `head` is
+    /// The `i`-th arc into `v`, counted from 0, by rising arc number; none after the last. Its `head` is
     /// the arc's tail.
     #[inline(always)]
     pub fn into_step(&self, v: Vertex, i: u32) -> Option<Step>

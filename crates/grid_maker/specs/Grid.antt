@@ -1,12 +1,16 @@
 -- Grids of two-way streets, whose lengths a generator of words gives.
 --   vertex_at w r c     the vertex in row r and column c, both counted from 0, of a grid w wide
 --   both_ways u v       the ends of an arc from u to v, and of one back
---   right_ends, lower_ends   the ends of the two arcs with the right neighbour, and with the lower one, where there is one
+--   right_ends, lower_ends   the ends of the two arcs with the right neighbour, and with the lower one, where there is
+--                       one
 --   cell_ends w h r c   the arcs of the vertex in row r and column c: with its right neighbour, then with its lower one
+--   row_ends w h r      the arcs of the vertices in row r, column by column
 --   grid_ends w h       the arcs of all vertices, row by row
+--   row_of ends word    the arc of these ends that a word gives, 1 to 1000 long
 --   rows_from x ends    these arcs, where the generator stands at x: each takes the next word, and is 1 to 1000 long
---   state_behind x ends the generator behind them
+--   state_behind x ends the state of the generator after them
 --   grid x w h          the grid that a generator makes
+--   IsSide n            a side of a grid that is made: 1 to 4096
 -- The generator is SplitMix64, whose step `mix_u64` gives a word and its next state.
 use Rattle.std.specs.Prelude.{ℕ, ◌+◌, ◌*◌, ◌%◌, ◌≤◌, List, [], ◌∷◌, ◌++◌, nat_lt, if◌then◌else◌}
 use Rattle.std.specs.List.{flat_map, range_with_len}

@@ -1,6 +1,6 @@
 -- A grid in the making.
 --   IsEmpty seed s       no arc yet, and the generator stands at the seed
---   Adds old new ends    the arcs with these ends were added, and the generator stands behind them
+--   Adds old new ends    the arcs with these ends were added, and the generator stands after their words
 use Rattle.std.specs.Prelude.{◌≡◌, ℕ, List, [], ◌++◌}
 use Rattle.grid_maker.specs.declared.streets.Streets.{Streets}
 use Rattle.grid_maker.specs.Grid.{rows_from, state_behind}

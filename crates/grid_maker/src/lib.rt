@@ -35,7 +35,7 @@ impl From<AllocError> for MakeFault {
 /// 1000 long. The same seed and sides give the same grid everywhere.
 ///
 /// The lengths come from SplitMix64, the generator of Steele, Lea and Flood as `rand_xoshiro` gives it, begun at
-/// the seed. It is handed back behind its last word, so that more may be drawn from it.
+/// the seed. It is handed back after its last word, so that more may be drawn from it.
 ///
 /// It takes 16 bytes an arc, in one allocation, and the time of one word an arc.
 pub fn make(

@@ -40,7 +40,7 @@ impl Sides {
         self.width * self.height
     }
 
-    /// How many arcs the grid has. Only the room that is taken beforehand hangs on it, so no clause speaks of it.
+    /// How many arcs the grid has. It only says how much memory is taken at once, so no clause speaks of it.
     pub fn arcs(self) -> u32 {
         let across = (self.width - 1) * self.height;
         let down = self.width * (self.height - 1);

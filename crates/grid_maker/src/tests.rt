@@ -3,7 +3,7 @@ use rand_core::utils::NextWord;
 use std::fmt::Write;
 use std::test::Fail;
 
-// The arcs of a grid of seed 0 (tail, head, length), and the word behind them.
+// The arcs of a grid of seed 0 (tail, head, length), and the word after them.
 fn text_of(alloc: Global, width: u32, height: u32) -> Result<String, Fail> {
     let (graph, mut words) = make(alloc, 0, width, height)?;
     let mut text = String::new(alloc);

@@ -1,10 +1,15 @@
 -- What a survey of a grid counts.
+--   drawn n x            the vertex, of 1 to n, that the next word gives, where the generator stands at x
+--   step x               where the generator stands then
 --   draws x n q          q queries between vertices 1 to n: each takes two words of the generator, which stands at x
 --   AreAnswers g ds ps   each plan answers the query of its draw, with the usual ratios
+--   is_none plan         there is no path
 --   routes_in plan       how many paths a plan has, its optimum among them
 --   length_in plan       the sum of their lengths
 --   IsSummary g ds s     the summary of these queries over the graph
---   IsSurvey ..          the summary of a grid, and of so many queries drawn behind its lengths
+--   IsSurvey ..          the summary of a grid, and of so many queries drawn after its lengths
+--   line_text line       the line with its line feed
+--   graph_line, queries_line, routes_line   the first three lines of a summary
 --   summary_text s       its four lines
 use Rattle.std.specs.Prelude.{◌≡◌, ℕ, suc, zero, ◌+◌, ◌%◌, Bool, true, false, List, [], ◌∷◌, ◌++◌, length, codes, decimal}
 use Rattle.std.specs.List.{sum_by, count_by}

@@ -14,7 +14,7 @@ fn push_number(out: &mut Vec<u8>, number: u128) -> Result<(), AllocError>
     out.extend_from_slice(buffer.format(number).as_bytes())
 }
 
-/// Appends a line of two numbers, each behind its words.
+/// Appends a line of two numbers, each after its words.
 pub fn push_line(
     out: &mut Vec<u8>,
     words: &[u8],

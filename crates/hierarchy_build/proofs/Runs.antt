@@ -61,7 +61,7 @@ place_inside n first head v k s is_v a =
 pub head_inside : (n : ℕ) (first head : List ℕ) (v k : ℕ) → IsShape n first head → v < n → InSpan first v k → slice_index head k < n
 head_inside n first head v k s is_v a = s.within k (place_inside n first head v k s is_v a)
 
--- the run of a higher neighbour lies behind
+-- the run of a higher neighbour comes later
 pub behind_run : (n : ℕ) (first head : List ℕ) (v i : ℕ) → IsShape n first head → v < n → InSpan first v i → slice_index first (v + 1) ≤ slice_index first (slice_index head i)
 behind_run n first head v i s is_v a =
     let above : v < slice_index head i = s.above v i is_v a in
@@ -87,7 +87,7 @@ across_found n first head v i j at k s is_v a b lt behind late found earliest ne
     let low : k ≤ there.place = earliest there.place (next there.place across) there.is in
     record { span = record { low = omega arith; high = omega (arith, there.span.high) }; is = found }
 
--- the next one lies behind it
+-- the next one lies after it
 pub across_rises : (n : ℕ) (first head : List ℕ) (v i j b k c : ℕ) → IsShape n first head → v < n → InSpan first v i → InSpan first v j → InSpan first v b → j < b → IsAcross first head i j k → IsAcross first head i b c → k + 1 ≤ c
 across_rises n first head v i j b k c s is_v at_i at_j at_b lt x y =
     let rise : slice_index head j < slice_index head b = s.ascending v j b is_v at_j at_b lt in

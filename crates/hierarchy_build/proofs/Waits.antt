@@ -434,7 +434,7 @@ IsPlaced-all n rank first head p q r tail inside waits due =
       fall = (λ lt. (waits (slice_index rank r.head) (slice_index rank r.tail) (due.fall lt)).done inside);
     }
 
--- a rank put behind those that wait
+-- a rank put after those that wait
 pub IsPut-pushed : (p : List (List ℕ)) (a x : ℕ) (xs : List ℕ) → a < length p → xs ≡ waiting p a ++ x ∷ [] → IsPut a x p (set p a xs)
 IsPut-pushed p a x xs inside is =
     let here : waiting (set p a xs) a ≡ waiting p a ++ x ∷ [] = get_or-set_same p a xs [] inside ∙ is in

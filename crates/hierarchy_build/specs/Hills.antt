@@ -9,6 +9,8 @@
 --   hill_length h          its length
 --   HillWithin U D u v k   a hill of at most that length
 --   Within L a b k         a link of at most that length
+--   HasHill U D u v k      some hill has the length k
+--   NoneLower U D u v k    no hill is shorter than k
 --   IsHillDist cap U D u v d  Some k: k is the least length of a hill; None: each is as long as the cap at least
 --   HasTriangles cap U D   two links that meet at their lower end are joined by a third that isn't longer than
 --                          both, where that is below the cap

@@ -8,11 +8,13 @@
 --   Keeps n first head from up down up' down'  both ways so, and links that were walks are walks still
 --   IsTight up down i j k  the link at k is no longer, either way, than that at i and that at j together
 --   AreTight n first head up down v  this holds for each two places of the run of a rank below v
+--   RunIsTight first head up down v i  this holds for the place i of the run of v and each place after it there
 --   AreSpelled order rank r   the ranks of an arc's ends lead back to them
 --   IsWithin n rank r      an arc whose ends have ranks below n, and whose length is that of a link
 --   IsCovered n first head rank up down r   an arc whose ends differ in rank has a link that isn't longer
 --   KeepsArcs n rank first head rows up down up' down'   nothing rises, links that were walks of a graph with
---                          these arcs are walks of it still, and each arc is covered; KeepsArc the same for one arc
+--                          these arcs are walks of it still, and each arc is covered
+--   KeepsArc               the same for one arc
 use Rattle.std.specs.Prelude.{◌≡◌, ◌≢◌, ◌<◌, ◌≤◌, ◌⊎◌, ◌+◌, ◌^◌, ℕ, List, Some, length, slice_index, All}
 use Rattle.road_model.specs.declared.rows.ArcRow.{ArcRow}
 use Rattle.road_model.specs.Graph.{Graph, rows_of, arc_at}

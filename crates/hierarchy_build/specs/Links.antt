@@ -3,9 +3,11 @@
 --   AreLinks n first head l  n runs one after another; each link leads to a rank that stands in the shape's run of its own,
 --                          and is one by its length
 --   Stands head lengths from to b x   a link to b of the length x stands at a place from `from` to `to`
---   IsAdded head full thinned from to old new   the links at these places that are as long as their thinned length follow the old ones
+--   IsAdded head full thinned from to old new   the links at these places that are as long as their thinned length
+--                          follow the old ones
 --   KeptSoFar n v first head full thinned l    so it is for the runs below v
---   AreKept n first head full thinned l    l has links of the full lengths alone, and each that is as long as its thinned length
+--   AreKept n first head full thinned l    l has links of the full lengths alone, and each that is as long as its thinned
+--                          length
 use Rattle.std.specs.Prelude.{◌≡◌, ◌<◌, ◌≤◌, ◌+◌, ℕ, List, length, slice_index}
 use Rattle.hierarchy_build.specs.declared.links.Links.{Links}
 use Rattle.hierarchy_build.specs.Runs.{InSpan, IsUp}

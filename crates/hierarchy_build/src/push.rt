@@ -29,7 +29,7 @@ pub(crate) fn lower(lengths: &mut [u64], place: usize, to: u64)
     lengths[place] = lengths[place].min(to);
 }
 
-// Lowers the links across from the place `i` in the run of `v` to what lies behind it there.
+// Lowers the links that join the rank at the place `i` of the run of `v` with each after it there.
 fn push_row(
     ranks: usize,
     first: &[u32],

@@ -14,7 +14,7 @@ routes_text-lines : (routes : List Route) → flat_map line_text (map route_text
 routes_text-lines [] = refl
 routes_text-lines (route ∷ routes) = ap (λ (l : List ℕ). line_text (route_text route) ++ l) (routes_text-lines routes)
 
--- the lines of some alternatives behind the first ones
+-- the lines of some alternatives after the first ones
 part_lines : (count first : ℕ) (others : List Route) → flat_map line_text (take count (drop first (map route_text others))) ≡ routes_text (take count (drop first others))
 part_lines count first others =
     ap (λ (l : List (List ℕ)). flat_map line_text (take count l)) (drop-map route_text first others)

@@ -41,7 +41,7 @@ flat_map_taken f xs i x lt is =
     ∙ (flat_map-append f (take i xs) (get_or xs i x ∷ [])
     ∙ ap (λ (l : List ℕ). flat_map f (take i xs) ++ l) (append-nil (f (get_or xs i x)) ∙ ap f (sym is)))
 
--- the texts of the elements up to a place, and of those behind it
+-- the texts of the elements up to a place, and of those after it
 flat_map_split : {X : Type 0} (f : X → List ℕ) (xs : List X) (i : ℕ) → flat_map f (take i xs) ++ flat_map f (drop i xs) ≡ flat_map f xs
 flat_map_split f xs i = sym (flat_map-append f (take i xs) (drop i xs)) ∙ ap (λ (l : List _). flat_map f l) (take-append-drop i xs)
 

@@ -1,8 +1,9 @@
 -- Text that is written to a sink piece by piece, until a write fails.
 --   put_of result    how the write ended, from a result
 --   Appends written faults text old new answer
---                    the text, or a front of it where the write failed, stands in the sink behind what was there; where it failed, the
---                    sink has counted it. What the sink holds and how often it failed are read off it by `written` and `faults`
+--                    the text, or a prefix of it where the write failed, stands in the sink after what was there; where
+--                    it failed, the sink has counted it. What the sink holds and how often it failed are read off it by
+--                    `written` and `faults`
 use Rattle.std.specs.Prelude.{◌≡◌, ℕ, ◌≤◌, List, Option, Result, Ok, Err}
 use Rattle.road_io.specs.Told.{Told}
 use Rattle.road_io.specs.Count.{HasRisen}

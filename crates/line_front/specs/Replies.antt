@@ -1,10 +1,23 @@
 -- Replies as lines. Each ends with a line feed, which is byte 10.
---   arcs_text          the numbers of a walk, each behind a space
+--   arcs_text          the numbers of a walk, each after a space
+--   line_text line     the line with its line feed
+--   numbered word n    a word with a number after it
+--   optimum_text o     an optimum
+--   head_text, tail_text   an alternative up to its shared length, and from its plateau up to its arcs
+--   route_text r       an alternative
 --   item_texts         the items of a plan: its optimum, then its alternatives in order
+--   items_text span plan   the lines of the items that a span has in a plan; none where there is no plan, or no path
+--   more_text cursor   the line of the cursor of the next page, where there is one
+--   ok_text number     the first line of a reply in the version of this number
+--   end_text           the last line of a reply of several lines
+--   best_text          the lines of an optimum
 --   page_text          a page of a plan
+--   pair_text          two places, and the distance between their vertices
 --   verdict_text       a verdict, from its word on
+--   why_text           the lines of a verdict
 --   error_text         an error, from its word on
 --   reply_text r plan  the lines of a reply; a page is one of the plan beside it
+--   HasSpan span plan  the plan has the items of the span
 --   HasItems r plan    where the reply is a page, the plan has the items of its span
 use Rattle.std.specs.Prelude.{ℕ, ◌≡◌, ◌+◌, ◌≤◌, List, [], ◌∷◌, ◌++◌, Option, Some, None, length, map, take, drop, codes, decimal}
 use Rattle.std.specs.List.{flat_map}
@@ -29,7 +42,7 @@ arcs_text arcs = flat_map (λ a. 32 ∷ decimal a) arcs
 abbrev pub line_text : List ℕ → List ℕ
 line_text line = line ++ 10 ∷ []
 
--- a word with a number behind it
+-- a word with a number after it
 abbrev pub numbered : List ℕ → ℕ → List ℕ
 numbered word n = word ++ decimal n
 

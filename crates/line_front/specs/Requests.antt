@@ -1,9 +1,26 @@
 -- What a request line says. Its fields are what stands between blanks, and its first field is the word of the request.
+--   longest            the longest line, its end not counted
+--   is_slash b         the byte is a slash
 --   ratio_of field     the two numbers of a field `N/D`
---   options_of fields  the options that pairs of fields give, a name and its value; none where a name is unknown or stands twice, or a
---                      value isn't as it should be
---   request_of fields  the request of these fields
+--   no_options         no option is given
+--   fresh old value    the value of an option that isn't given yet; none where it is
+--   with_option name value o   the options with one more; none where its name is unknown or given already, or its value
+--                      isn't as it should be
+--   options_of fields  the options that pairs of fields give, a name and its value; none where one of them is refused,
+--                      or a name has no value
+--   query_with ends o  the query of a source and a target, with the ratios given and the usual ones for the others
+--   two_numbers fields   the numbers of two fields, where there are no others
+--   best_of, length_of, route_of, why_of, next_of   the request of the fields after the word `optimum`, `length`,
+--                      `route`, `why` or `next`; none where they don't make one
+--   route_with given   a request for a first page, whose size is 5 where none is given
+--   why_with given     a request for a verdict; none where a size is given
+--   or_bad cursor      the request for the page of a cursor; where the text is no cursor, one that says so
+--   alone r fields     this request, where no field follows its word
+--   request_of word fields   the request of a word and the fields after it
+--   is_publisher role, is_reader role   who has this role may publish, or may ask for routes
 --   may_ask role r     the request is one for this role
+--   for_role role r    what a line is that makes this request or none
+--   by_fields role fields   what a line of these fields is
 --   parsed_of role line   the line is too long, or says nothing, or is a request for this role, or is none
 use Rattle.std.specs.Prelude.{ℕ, ◌==◌, Bool, true, false, List, [], ◌∷◌, Option, Some, None, length, codes, nat_lt, unwrap_or, is_some, if◌then◌else◌}
 use Rattle.std.specs.List.{before_first, after_first}
@@ -66,7 +83,7 @@ query_with ends o = record {
   epsilon = unwrap_or o.epsilon (1, 4);
 }
 
--- ---- requests, each of the fields behind its word
+-- ---- requests, each of the fields after its word
 
 abbrev pub two_numbers : List (List ℕ) → Option (ℕ × ℕ)
 two_numbers [] = None

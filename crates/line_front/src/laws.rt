@@ -8,7 +8,7 @@ ghost use Rattle.line_front.specs.Requests.{parsed_of};
 ghost use Rattle.line_front.specs.declared.requests.Parsed.TheVariants as parsed;
 ghost use Rattle.line_front.specs.declared.requests.Role.TheVariants as role;
 
-/// The cursor of a `more` line is read behind the word `next` as that cursor.
+/// The cursor of a `more` line is read after the word `next` as that cursor.
 pub fn a_written_cursor_is_a_request()
     ensures { (c : Place) → IsSmall c → parsed_of role.Reader (codes "next " ++ cursor_text c) ≡ parsed.Request (Next c) }
 {}

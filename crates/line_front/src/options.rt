@@ -80,7 +80,8 @@ fn with_option(name: &[u8], value: &[u8], options: Options) -> Option<Options>
 
 /// The options that the fields give, in pairs of a name and a value.
 ///
-/// It calls itself once a pair, and a pair takes four bytes, so at most 256 deep over a line of 1024.
+/// It calls itself once a pair, and a pair takes at least four bytes of the line, so it goes at most 256 deep over a
+/// line of 1024.
 #[tactic(auto, unfolding(crate::specs::Requests::options_of))]
 pub(crate) fn read_options(fields: &[u8]) -> Option<Options>
     ensures { result ≡ options_of (fields_of fields.now) }

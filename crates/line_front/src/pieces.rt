@@ -30,7 +30,7 @@ pub fn put_number<K: Sink>(sink: &mut K, number: u64) -> Result<(), SinkFailed>
     put(sink, buffer.format(number).as_bytes())
 }
 
-/// Writes a word with a number behind it.
+/// Writes a word with a number after it.
 pub fn put_numbered<K: Sink>(sink: &mut K, word: &[u8], number: u64) -> Result<(), SinkFailed>
     ensures { Appends K.written K.faults (numbered word.now number) sink.old sink.new (put_of result) }
 {
@@ -38,7 +38,7 @@ pub fn put_numbered<K: Sink>(sink: &mut K, word: &[u8], number: u64) -> Result<(
     put_number(sink, number)
 }
 
-/// Writes a line of a word with a number behind it.
+/// Writes a line of a word with a number after it.
 pub fn put_numbered_line<K: Sink>(sink: &mut K, word: &[u8], number: u64) -> Result<(), SinkFailed>
     ensures { Appends K.written K.faults (line_text (numbered word.now number))
         sink.old sink.new (put_of result) }
@@ -47,7 +47,7 @@ pub fn put_numbered_line<K: Sink>(sink: &mut K, word: &[u8], number: u64) -> Res
     put(sink, b"\n")
 }
 
-/// Writes the numbers of a walk, each behind a space.
+/// Writes the numbers of a walk, each after a space.
 pub fn put_arcs<K: Sink>(sink: &mut K, arcs: &[ArcNo]) -> Result<(), SinkFailed>
     ensures { Appends K.written K.faults (arcs_text arcs.now) sink.old sink.new (put_of result) }
 {

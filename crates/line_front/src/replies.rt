@@ -70,7 +70,7 @@ fn put_cursor_line<K: Sink>(sink: &mut K, cursor: &Cursor) -> Result<(), SinkFai
     put(sink, b"\n")
 }
 
-/// Writes that line, where a page stands behind.
+/// Writes that line, where another page follows.
 fn put_more<K: Sink>(sink: &mut K, more: Option<Cursor>) -> Result<(), SinkFailed>
     ensures { Appends K.written K.faults (more_text more) sink.old sink.new (put_of result) }
 {
@@ -105,7 +105,7 @@ fn put_pair<K: Sink>(sink: &mut K, pair: &Pair) -> Result<(), SinkFailed>
     put_numbered(sink, b" ", pair.distance)
 }
 
-/// Writes a word with a pair behind it.
+/// Writes a word with a pair after it.
 fn put_paired<K: Sink>(sink: &mut K, word: &[u8], pair: &Pair) -> Result<(), SinkFailed>
     ensures { Appends K.written K.faults (word.now ++ pair_text pair.now) sink.old sink.new (put_of result) }
 {
@@ -203,10 +203,10 @@ fn put_reply<K: Sink>(sink: &mut K, reply: &Reply, shown: Option<&Plan>) -> Resu
     }
 }
 
-/// Writes the lines of a reply, piece by piece: to a sink for which small pieces are dear, hand a buffer. A page
-/// shows the items of the plan beside it, and with any other reply the plan means nothing.
+/// Writes the lines of a reply, piece by piece; where a sink is slow with small pieces, hand in one that gathers them.
+/// A page shows the items of the plan beside it, and with any other reply the plan means nothing.
 ///
-/// It takes no memory. After `Failed` a front of the lines is written.
+/// It takes no memory. After `Failed` a prefix of the lines is written.
 pub fn write_reply<K: Sink>(sink: &mut K, reply: &Reply, shown: Option<&Plan>) -> Put
     requires { HasItems reply.now (option_copied shown) }
     ensures writes { Writes (reply_text reply.now (option_copied shown.entry))

@@ -61,7 +61,7 @@ fn two_numbers(fields: &[u8]) -> Option<(u64, u64)>
     number(first).zip(number(second))
 }
 
-/// The request of the fields behind `optimum`.
+/// The request of the fields after `optimum`.
 fn read_best(fields: &[u8]) -> Option<Request>
     ensures { result ≡ best_of (fields_of fields.now) }
 {
@@ -69,7 +69,7 @@ fn read_best(fields: &[u8]) -> Option<Request>
     Some(Request::Best { from, to })
 }
 
-/// The request of the fields behind `length`.
+/// The request of the fields after `length`.
 fn read_length(fields: &[u8]) -> Option<Request>
     ensures { result ≡ length_of (fields_of fields.now) }
 {
@@ -90,7 +90,7 @@ fn query_with(from: u64, to: u64, options: &Options) -> CursorQuery
     }
 }
 
-/// The request of the fields behind `route`.
+/// The request of the fields after `route`.
 fn read_route(fields: &[u8]) -> Option<Request>
     ensures { result ≡ route_of (fields_of fields.now) }
 {
@@ -106,7 +106,7 @@ fn read_route(fields: &[u8]) -> Option<Request>
     })
 }
 
-/// The request of the field behind `next`: a cursor, or a text that is none.
+/// The request of the field after `next`: a cursor, or a text that is none.
 fn read_next(fields: &[u8]) -> Option<Request>
     ensures { result ≡ next_of (fields_of fields.now) }
 {
@@ -120,7 +120,7 @@ fn read_next(fields: &[u8]) -> Option<Request>
     }
 }
 
-/// The request of the fields behind `why`.
+/// The request of the fields after `why`.
 fn read_why(fields: &[u8]) -> Option<Request>
     ensures { result ≡ why_of (fields_of fields.now) }
 {
@@ -151,7 +151,7 @@ fn alone(request: Request, fields: &[u8]) -> Option<Request>
     }
 }
 
-/// The request of a word and the fields behind it.
+/// The request of a word and the fields after it.
 fn read_word(word: &[u8], fields: &[u8]) -> Option<Request>
     ensures { result ≡ request_of word.now (fields_of fields.now) }
 {

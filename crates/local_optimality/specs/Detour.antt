@@ -1,7 +1,7 @@
 -- Subpaths that are no shortest walks, and where they end.
 --   IsRising t                   the lengths up to the places of a trail never fall; a place's number fits
 --   IsDetour o t i j d           the distance between two places is d, and the subpath isn't as long
---   FindsDetour o t via i n p    of the ends behind the via up to n, p has the least whose subpath from i is
+--   FindsDetour o t via i n p    of the ends after the via up to n, p has the least whose subpath from i is
 --                                a detour
 --   TellsDetour o t i n result   None where the subpath from i to n is as long as the distance; else the distance
 --   IsFailingStart o f l t via p no pair fails whose first place is before that of p; the subpaths from there round

@@ -3,6 +3,7 @@
 --   IsPairOf r i j           the places i and j are a first and a last place of r
 --   pairs_in r               how many pairs there are
 --   spread_of r              how far it is from being one pair
+--   IsHalf r h               h has some of the pairs of r, and is nearer to being one pair
 --   AreHalves r h            two rectangles that have the pairs of r between them; the outer one has its outermost pair
 --   NoneFailsIn F r          no pair of the rectangle fails
 --   IsLeastIn F r p          p fails, and of the failing pairs of r none has a lesser first place, nor with that

@@ -46,7 +46,7 @@ pub record IsChainSoFar (ts : Trees) (first last least left : ℕ) : Type 0 wher
   pub rise : (a b : ℕ) → IsDist ts.graph ts.source first (Some a) → IsDist ts.graph ts.source last (Some b) → a ≤ b
   pub on : (p : List ℕ) → IsThrough ts first p → OnChain ts p last least
 
--- no via in both balls is before the first vertex of a chain, nor behind its last
+-- no via in both balls is before the first vertex of a chain, nor after its last
 none_before : (ts : Trees) (first v : ℕ) (p : List ℕ) → IsGraph ts.graph → IsInBoth ts first → IsPrevious ts first None → (k : IsThrough ts first p) (h : IsThrough ts v p) → IsInBoth ts v → length k.front ≤ length h.front
 none_before ts first v p sound in_first begins k h in_v =
     ⊎_elim

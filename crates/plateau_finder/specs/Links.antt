@@ -1,9 +1,12 @@
 -- Links: the steps from one vertex of a plateau to the next.
 --   IsLink ts u v          one arc ends the canonical path from the source to v, after u, and begins the one from u
 --                          to the target, before v
+--   IsLinkInside ts u v    such a link, between two vertices in both balls
 --   IsNext ts u o          Some: a link leads out of u, to that vertex in both balls; None: to none
 --   IsPrevious ts v o      Some: a link leads into v, from that vertex in both balls; None: from none
+--   HasLinkInto ts v       such a link leads into v
 --   IsChainFrom ts c       no link leads into c's first vertex, and c is the plateau of each walk through that
+--   IsStart ts bound v c   c begins at v, into which no link leads, and is the plateau of a walk within the bound
 --   StartsAt ts bound v o  Some: a plateau from v, of a walk within the bound; None: v is outside a ball, its walk
 --                          is beyond the bound, or a link leads into it
 --   IsChainBack ts v u     no link leads into u, and each walk through v leads through u

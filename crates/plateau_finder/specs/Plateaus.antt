@@ -1,5 +1,6 @@
 -- Plateaus: the vertices inside both balls of a pair of trees, parted by the walk that leads through them.
 --   IsInBoth ts v          v is inside the ball from the source and inside the one to the target
+--   IsThrough ts v p       p is the walk through v
 --   IsPlateauOf ts p c     p is the walk through c's first, last and least vertex, which are in both balls; each
 --                          vertex in both that p is the walk through is at a distance from the source from that of
 --                          `first` to that of `last`, which are c's length apart, and isn't below `least`; where p
@@ -7,8 +8,10 @@
 --   IsListed ts bound c    c is the plateau of some walk, which is within the bound
 --   HasPlateau ts p cs     the plateau of p is among these
 --   ArePlateaus ts bound cs   those of the walks within the bound through the vertices in both balls, each once,
---                          by rising least vertex; None as the bound is no limit
+--                          by rising least vertex; where the bound is None, those of all walks
+--   IsPlateauAt ts cs v c  c is the plateau of the walk through v, which is in both balls, and is one of these
 --   FindsPlateau ts cs v o   Some: the plateau of the walk through v, one of these; None: v is outside a ball
+--   IsOwnPlateau ts v c    c is the plateau of the walk through v, which is in both balls
 --   IsPlateauThrough ts v o  Some: the plateau of the walk through v; None: v is outside a ball
 -- Of a walk that is longer than the radius, some vias may be outside a ball: nothing is said of those.
 use Rattle.std.specs.Prelude.{◌≡◌, ◌<◌, ◌≤◌, ◌⊎◌, ◌+◌, ℕ, List, Option, Some, None, All, AllPairs, Contains}

@@ -36,7 +36,7 @@ fn in_order(alloc: Global, pair: &TreePair<'_>, bound: Option<u64>) -> Result<Pl
     Ok(PlateauList::from_vec(found))
 }
 
-/// All classes of the vertices in both balls that have one walk through them. One pass over the ball from the
+/// All plateaus of the vertices in both balls. One pass over the ball from the
 /// source, in linear time, and a sort of the plateaus; 24 bytes a plateau. No walk is made or compared.
 pub fn plateaus(alloc: Global, pair: &TreePair<'_>) -> Result<PlateauList, NoMemory>
     ensures { IfOk result (λ cs. ArePlateaus pair.now None cs) }
@@ -71,8 +71,8 @@ fn named(list: &[Plateau], least: Vertex) -> Plateau
     unreachable!()
 }
 
-/// The class of a vertex, by the trees alone; none exactly where it is outside a ball. Takes the time of the class's
-/// length, and no memory.
+/// The plateau of a vertex, by the trees alone; none exactly where it is outside a ball. Takes the time of the arcs at
+/// the plateau's vertices and at those next to it, and no memory.
 pub fn plateau_through(pair: &TreePair<'_>, v: Vertex) -> Option<Plateau>
     ensures { IsPlateauThrough pair.now v result }
 {
@@ -86,8 +86,8 @@ pub fn plateau_through(pair: &TreePair<'_>, v: Vertex) -> Option<Plateau>
     Some(plateau_from(pair, first))
 }
 
-/// The class of a vertex; none exactly where it is outside a ball. Takes the time of the class's length and a scan
-/// of the list, and no memory. The list is that of all plateaus of the pair.
+/// The plateau of a vertex; none exactly where it is outside a ball. Takes the time of the arcs at the plateau's
+/// vertices and at those next to it, and a scan of the list; no memory. The list is that of all plateaus of the pair.
 pub fn plateau_of(list: &PlateauList, pair: &TreePair<'_>, v: Vertex) -> Option<Plateau>
     requires { ArePlateaus pair.now None list.now }
     ensures { FindsPlateau pair.now list.now v result }

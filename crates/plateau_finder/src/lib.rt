@@ -1,4 +1,4 @@
-//! The plateaus of a pair of canonical trees: the stretches that both trees share, each with the vertices that one
+//! The plateaus of a pair of canonical trees: the parts of paths that both trees share, each with the vertices that one
 //! walk leads through.
 //!
 //! The walks through two vertices are one walk where the arcs between them are in both trees. Such an arc is a link

@@ -2,7 +2,7 @@
 use Rattle.std.proofs.Common.{ℕ, ◌≤◌, arith}
 use Rattle.road_io.specs.Count.{HasRisen}
 
--- a rise behind an earlier step
+-- a rise after an earlier step
 pub HasRisen_behind : (a b c : ℕ) → a ≤ b → b ≤ c → HasRisen b c → HasRisen a c
 HasRisen_behind a b c h k r = λ below. grind arith
 

@@ -10,11 +10,11 @@ use Rattle.road_io.proofs.ToldLemmas.{IfTold_then, IfTold_both, told_same}
 pub Writes_nothing : (a : Option Told) → Writes [] a a Done
 Writes_nothing a = told_same a _ (λ (x : List ℕ). sym (append-nil x))
 
--- a piece behind another
+-- a piece after another
 written_both : (first second x y z : List ℕ) → y ≡ x ++ first → z ≡ y ++ second → z ≡ x ++ (first ++ second)
 written_both first second x y z p q = q ∙ ap (λ w. w ++ second) p ∙ append_assoc x first second
 
--- a front of the second piece behind the first
+-- a prefix of the second piece after the first
 front_behind : (first second x y z : List ℕ) → y ≡ x ++ first → WritesFront second y z → WritesFront (first ++ second) x z
 front_behind first second x y z p q = record {
   front = first ++ q.front;
@@ -23,7 +23,7 @@ front_behind first second x y z p q = record {
   written = written_both first q.front x y z p q.written;
 }
 
--- a front of the first piece is one of the two in one
+-- a prefix of the first piece is one of the two in one
 front_of_first : (first second x y : List ℕ) → WritesFront first x y → WritesFront (first ++ second) x y
 front_of_first first second x y p = record {
   front = p.front;

@@ -1,7 +1,8 @@
 -- What the forms in memory show of themselves, over their private fields.
 --   source_left, source_piece, source_calls   what a MemSource still has, the size of its pieces, and its calls
 --   sink_bytes, sink_calls                     what was written to a MemSink, and its calls
---   shelf_told, shelf_piece, shelf_calls       a MemShelf's files with what is left of the current one, the size of its pieces, and its calls
+--   shelf_told, shelf_piece, shelf_calls       a MemShelf's files with what is left of the current one, the size of its
+--                                              pieces, and its calls
 use Rattle.std.specs.Prelude.{ℕ, List}
 use Rattle.road_io.specs.Told.{Told}
 use Rattle.road_io.specs.Memory.{contents_in}

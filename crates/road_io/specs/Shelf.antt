@@ -1,8 +1,10 @@
 -- What picking a file from a shelf does.
 --   name     the bytes of the file's name
---   Opens    the name has contents, and these are what is left to read. A shelf that tells nothing goes on telling nothing
+--   Opens    the name has contents, and these are what is left to read. A shelf that tells nothing goes on telling
+--            nothing
 --   Picks    the answer fits the name and what the shelf tells before and after
---   with_name   the names that were asked for, with one more behind them; a shelf that doesn't tell them goes on telling none
+--   with_name   the names that were asked for, with one more after them; a shelf that doesn't tell them goes on telling
+--               none
 -- A pick that failed leaves the file that was current where it was.
 use Rattle.std.specs.Prelude.{◌≡◌, ℕ, List, [], ◌∷◌, ◌++◌, Option, Some, None}
 use Rattle.std.specs.Option.{option_map}

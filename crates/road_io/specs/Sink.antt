@@ -1,7 +1,7 @@
 -- What one write to a sink does.
 --   piece         the bytes that are to be written
 --   Writes        the answer fits the piece and what the sink tells before and after the write
---   WritesFront   a front of the piece, which may be nothing or all of it, stands behind what was written before
+--   WritesFront   a prefix of the piece, which may be none or all of it, stands after what was written before
 use Rattle.std.specs.Prelude.{◌≡◌, ℕ, List, ◌++◌, Option}
 use Rattle.road_io.specs.Told.{Told, IfTold}
 use Rattle.road_io.specs.declared.writing.Put.{Put}

@@ -1,7 +1,7 @@
 -- What one read of a source does.
---   room     the bytes of the room behind the read
+--   room     the bytes of the room after the read
 --   Reads    the answer fits the room and what the source tells before and after the read
--- Nothing is said of the room behind the bytes that came.
+-- Nothing is said of what the room has after the bytes that came.
 use Rattle.std.specs.Prelude.{◌≡◌, ℕ, ◌<◌, ◌≤◌, List, [], ◌++◌, length, take, Option}
 use Rattle.road_io.specs.Told.{Told, IfTold}
 use Rattle.road_io.specs.declared.reading.Read.{Read}

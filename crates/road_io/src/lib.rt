@@ -1,4 +1,4 @@
-//! The outside of the route server, as traits: where bytes come from, where they go, and files by
+//! Input and output, as traits: where bytes come from, where they go, and files by
 //! name.
 //!
 //! Each object keeps a count of its faults, which rises in a call that answers `Failed` and in no

@@ -6,11 +6,11 @@ ghost use Rattle.road_io.specs.Source.{Reads};
 /// What one read gave.
 #[derive(Clone, Copy, Debug, PartialEq, Eq)]
 pub enum Read {
-    /// So many bytes, at least one, at the front of the room.
+    /// So many bytes, at least one, at the beginning of the room.
     Took(usize),
     /// Nothing, since nothing is left.
     End,
-    /// Nothing, since the outside failed. What was left is still left.
+    /// Nothing, since the read failed. What was left is still left.
     Failed,
 }
 
@@ -28,7 +28,7 @@ pub trait Source {
     // The names that it was asked for as a shelf, if it tells them.
     ghost picked: { Self → Option (List (List ℕ)) };
 
-    /// Reads what comes next into the front of `room`; how much of it one read takes is the
+    /// Reads what comes next into the beginning of `room`; how much of it one read takes is the
     /// source's choice. The rest of `room` may be overwritten too.
     fn read(&mut self, room: &mut [u8]) -> Read
         requires { 0 < length room.old }

@@ -9,7 +9,7 @@ use crate::reading::Source;
 pub enum Picked {
     /// It is, at its start.
     Ready,
-    /// It isn't: there is no such file, or the outside failed. The file that was current still is.
+    /// It isn't: there is no such file, or it couldn't be opened. The file that was current still is.
     Failed,
 }
 

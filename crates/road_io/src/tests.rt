@@ -8,7 +8,7 @@ use std::io::{BufRead as _, ErrorKind, Lines};
 use std::test::Fail;
 use std::{fs, io};
 
-/// What so many reads gave: the bytes of each with `|` behind them, `.` for an end and `!` for a
+/// What so many reads gave: the bytes of each with `|` after them, `.` for an end and `!` for a
 /// failure.
 fn reads<S: Source>(
     alloc: Global,

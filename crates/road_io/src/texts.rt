@@ -29,7 +29,7 @@ pub(crate) struct Rest<'a> {
     piece: usize,
 }
 
-/// Copies the first bytes of `from` to the front of `room`.
+/// Copies the first bytes of `from` to the beginning of `room`.
 fn copy_front(from: &[u8], count: usize, room: &mut [u8])
     requires from { count ≤ length from.now }
     requires room { count ≤ length room.old }

@@ -8,7 +8,7 @@ ghost use Rattle.road_io.specs.Sink.{Writes};
 pub enum Put {
     /// The whole piece was written.
     Done,
-    /// The outside failed. A front of the piece was written, which may be nothing or all of it.
+    /// The write failed. A prefix of the piece was written, which may be nothing or all of it.
     Failed,
 }
 
@@ -20,7 +20,7 @@ pub trait Sink {
     // How often a call of it failed.
     ghost faults: { Self → ℕ };
 
-    /// Writes the whole piece behind what was written before. A sink may be written to again after
+    /// Writes the whole piece after what was written before. A sink may be written to again after
     /// a failure.
     fn write(&mut self, piece: &[u8]) -> Put
         ensures writes { Writes piece.now (written self.old) (written self.new) result }

@@ -1,8 +1,10 @@
 -- Small graphs on which the definitions are tried by hand.
+--   arc       an arc, by its tail, its head and its length
 --   graph_a   a tie: vertex 3 is 11 from vertex 1 by arc 3 and by the arcs 1 and 6
 --   graph_b   a detour of two long arcs
 --   graph_s   a stub at vertex 4, which a path through it enters and leaves by the same vertex
---   plan_a    the optimum of graph A from 1 to 6, and its one alternative
+--   optimum_a, route_a   the optimum of graph A from 1 to 6, and its one alternative
+--   plan_a    the answer that they make
 use Rattle.std.specs.Prelude.{ℕ, [], ◌∷◌}
 use Rattle.road_model.specs.declared.rows.ArcRow.{ArcRow}
 use Rattle.road_model.specs.declared.answer.Optimum.{Optimum}

@@ -1,6 +1,6 @@
 //! Laws of the definitions in `road_model`, in the subject's own words.
 //!
-//! Each law is the contract of a function that does nothing, so that the gate proves it. They say that the
+//! Each law is the contract of a function that does nothing, so that a check proves it. They say that the
 //! definitions speak of one answer, and they are what a reader checks the definitions against.
 #![tactic(auto)]
 

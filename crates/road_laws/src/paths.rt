@@ -25,7 +25,7 @@ pub fn parts_of_shortest()
         (v : ℕ) × IsShortest g u p v × IsShortest g v q w }
 {}
 
-/// A way through a third vertex is never shorter.
+/// A walk through a third vertex is never shorter.
 pub fn triangle()
     ensures { (g : Graph) (u v w a b c : ℕ) → IsDist g u v (Some a) → IsDist g v w (Some b) →
         IsDist g u w (Some c) → c ≤ a + b }

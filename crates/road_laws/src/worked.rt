@@ -90,7 +90,7 @@ pub fn changes_of_a()
     ensures others { arc_at (after graph_a (record { arc = 4; length = 9 } ∷ [])) 3 ≡ Some (arc 1 3 11) }
 {}
 
-/// Of two items a page of one has the first, and more stands behind it; behind both there is none.
+/// Of two items a page of one has the first, and more follow it; after both there is none.
 pub fn pages_of_two()
     ensures first { IsPage 2 1 0 (record { first = 0; count = 1; more = true }) }
     ensures last { IsPage 2 1 1 (record { first = 1; count = 1; more = false }) }

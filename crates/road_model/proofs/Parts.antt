@@ -16,7 +16,7 @@ pub length-sums : (g : Graph) (k : ℕ) (p : List ℕ) → length (sums g k p) �
 length-sums g k [] = refl
 length-sums g k (a ∷ p) = omega (arith, length-sums g (k + length_at g a) p)
 
--- where a walk is when its front is behind it
+-- where a walk is after its first part
 pub place_after : (g : Graph) (p q : List ℕ) (u v : ℕ) → IsWalk g u p v → get_or (places g u (p ++ q)) (length p) 0 ≡ v
 place_after g [] [] u v h = h
 place_after g [] (a ∷ q) u v h = h
@@ -112,7 +112,7 @@ parted g u v p i j h le inside =
     let cuts : Pieces p i j = pieces p i j le inside in
     moved (λ l m n. Parted g u l m n) p i j cuts (parted_pieces g u v cuts.front cuts.middle cuts.back (subst (λ (l : List ℕ). IsWalk g u l v) cuts.is h))
 
--- the middle of three pieces of a shortest walk, behind a walk, and with anything following
+-- the middle of three pieces of a shortest walk, after a walk, and with anything following
 record Middle (g : Graph) (u : ℕ) (a b : List ℕ) : Type 0 where
   from : ℕ
   to : ℕ
@@ -138,7 +138,7 @@ front_pieces g u w a b c q h =
     subst (λ (l : List ℕ). IsDistAt g (trail_of g u l) (length a) (length a + length b) (between (trail_of g u l) (length a) (length a + length b))) (sym same)
     (dist_of_piece g u m.from m.to a b (c ++ q) m.before m.shortest)
 
--- within a shortest front of a walk, each subpath is as long as the distance between its ends
+-- within a shortest first part of a walk, each subpath is as long as the distance between its ends
 pub dist_in_front : (g : Graph) (u w : ℕ) (f q : List ℕ) (i j : ℕ) → IsShortest g u f w → i ≤ j → j ≤ length f → IsDistAt g (trail_of g u (f ++ q)) i j (between (trail_of g u (f ++ q)) i j)
 dist_in_front g u w f q i j h le inside =
     let cuts : Pieces f i j = pieces f i j le inside in
@@ -156,7 +156,7 @@ back_pieces g u v w f a b c walk h =
     (subst (λ (n : ℕ). IsDistAt g (trail_of g u ((f ++ a) ++ (b ++ c))) (length (f ++ a)) n (between (trail_of g u ((f ++ a) ++ (b ++ c))) (length (f ++ a)) n)) far
     (dist_of_piece g u m.from m.to (f ++ a) b c (IsWalk-append g f a u v m.from walk m.before) m.shortest)))
 
--- and within a shortest back
+-- and within a shortest last part
 pub dist_in_back : (g : Graph) (u v w : ℕ) (f q : List ℕ) (i j : ℕ) → IsWalk g u f v → IsShortest g v q w → length f ≤ i → i ≤ j → j ≤ length (f ++ q) → IsDistAt g (trail_of g u (f ++ q)) i j (between (trail_of g u (f ++ q)) i j)
 dist_in_back g u v w f q i j walk h behind le inside =
     let whole : length (f ++ q) ≡ length f + length q = length-append f q in

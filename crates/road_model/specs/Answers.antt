@@ -3,6 +3,7 @@
 --   IsRoute g q o r      a route whose path is an alternative, with its numbers
 --   IsBefore a b         a has the lower rank, or the same and the lower via number
 --   IsAscending rs       each is before all that follow it, so none stands twice
+--   HasRoute rs p        p is the path of one of these routes
 --   IsListing g q o rs   the routes of every alternative and of nothing else, ascending
 --   IsAnswer g q plan    no path exactly where no walk leads there; else the optimum and such a list
 --   IsPage total size offset span   the items of one page: item 0 is the optimum, item k the k-th alternative

@@ -1,4 +1,5 @@
 -- A graph after published changes of lengths.
+--   with_row g a length o   the length of arc a, which is o, is replaced; where there is none, nothing changes
 --   changed g c    the length of the named arc is replaced; no other thing changes
 --   after g b      the changes of a batch, in their order, so that a later change of an arc wins
 --   after_all g h  the batches of a list, in turn

@@ -1,6 +1,7 @@
 -- The distance between two vertices: the least length of a walk.
 --   NoWalk g u v         no walk leads from u to v
 --   NoneShorter g u v k  no walk from u to v is shorter than k
+--   HasWalk g u v k      some walk from u to v has the length k
 --   IsDist g u v d       Some k: some walk has the length k and none is shorter; None: there is no walk
 --   IsShortest g u p v   p is a walk, and none is shorter
 --   DistsBelow g m       where a walk leads, one of less than m does (said so that it can be shown)

@@ -3,13 +3,17 @@
 --   rows_of g      the arcs, in the order of their numbers; every other word reads the list by it
 --   arc_count g    how many there are
 --   arc_at g a     the arc of number a; arc k is the k-th of the list, counted from 1
+--   row_length o, row_head o   the length or the head of an arc, and 0 where there is none
 --   length_at g a  its length, and 0 where there is no such arc
 --   head_at g a    its head, and 0 where there is no such arc
 --   IsVertex n v   v is one of the vertices 1 to n
 --   IsArc n r      both ends are vertices, and the length is above 0
 --   IsGraph g      each arc of the list is one
 --   LengthsBelow g m  each length is below m
+--   step_of k r    the arc of number k, as a step
+--   steps_from v k rs   the steps out of v among these arcs, the first of which has the number k
 --   step_at g v i  the i-th arc out of v, counted from 0, by rising arc number
+--   turned r       the arc turned round
 --   reversed g     the graph with each arc turned round, under its old number
 use Rattle.std.specs.Prelude.{◌<◌, ◌≤◌, ◌+◌, ℕ, zero, suc, List, [], ◌∷◌, length, Option, Some, None, slice_get, map, All, if◌then◌else◌, ◌==◌}
 use Rattle.road_model.specs.declared.rows.ArcRow.{ArcRow}

@@ -2,7 +2,7 @@
 --   places g u p   the vertices at its places 0 to n
 --   sums g k p     the lengths up to each of them, k more
 --   trail_of g u p both
---   at t i         the vertex at place i
+--   vertex_at t i  the vertex at place i
 --   between t i j  the length from place i to place j
 --   IsDistAt g t i j d  d is the distance between the vertices at two places
 use Rattle.std.specs.Prelude.{◌+◌, ◌-◌, ℕ, List, [], ◌∷◌, Some, slice_index}

@@ -6,7 +6,10 @@
 --   Local         a tested pair fails: the one with the least first, then the least last place
 --   Stretch       a pair fails the stretch: the same
 --   Listed        it is the alternative of this name
+--   IsOther g q o v p       p is the path through v, and isn't the optimum
+--   IsLong, IsOverShared, IsNotLocal, IsStretched, IsListed   the last five of these, each where none before it holds
 --   IsVerdict g q o v w     w is the verdict on v, where o is the arcs of the optimum
+--   IsMeasured g q v w      w is the verdict on v, by the optimum of the query
 --   IsVerdictOf g q v d     None exactly where the query has no walk; else Some of the verdict
 use Rattle.std.specs.Prelude.{◌≡◌, ◌≢◌, ℕ, List, Option, Some, None}
 use Rattle.road_model.specs.declared.answer.Pair.{Pair}

@@ -1,8 +1,8 @@
 -- Walks, as lists of arc numbers.
---   IsWalk g u p v   p leads from u to v: each arc begins where the one before it ends; no arc leads from a
---                    vertex to itself
+--   IsWalk g u p v   p leads from u to v: each arc begins where the one before it ends; the list of no arc is a walk
+--                    from each vertex to itself
 --   IsWalkFrom g u p  it leads from u to some vertex
---   walk_length g p  the sum of its lengths
+--   walk_length g p  the sum of the lengths of its arcs
 use Rattle.std.specs.Prelude.{◌≡◌, ◌+◌, ℕ, List, [], ◌∷◌, Some}
 use Rattle.road_model.specs.declared.rows.ArcRow.{ArcRow}
 use Rattle.road_model.specs.Graph.{Graph, arc_at, length_at}

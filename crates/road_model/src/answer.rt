@@ -71,7 +71,7 @@ pub enum Plan {
 pub struct PageSpan {
     pub first: u64,
     pub count: u64,
-    /// Items stand behind it.
+    /// Items of the plan follow after it.
     pub more: bool,
 }
 

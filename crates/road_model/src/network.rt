@@ -21,7 +21,7 @@ pub trait Network {
         ensures count { result ≡ (graph self.now).vertices }
         ensures sound { IsGraph (graph self.now) };
 
-    /// The `i`-th arc out of `v`, counted from 0, by rising arc number; none behind the last.
+    /// The `i`-th arc out of `v`, counted from 0, by rising arc number; none after the last.
     fn out(&self, v: Vertex, i: u32) -> Option<Step>
         ensures { result ≡ step_at (graph self.now) v i };
 

@@ -11,10 +11,10 @@ pub const SHORT: &[u8] =
 /// A detour of two long arcs, which no alternative may take.
 pub const DETOUR: &[u8] = b"p sp 6 5\na 1 2 10\na 2 6 10\na 1 3 11\na 3 6 11\na 2 3 1\n";
 
-/// An alternative leaves the optimum behind vertex 3.
+/// An alternative leaves the optimum after vertex 3.
 pub const FORK: &[u8] = b"p sp 6 6\na 1 3 5\na 3 2 5\na 2 6 10\na 3 4 6\na 4 5 5\na 5 6 5\n";
 
-/// Two ways of one length.
+/// Two walks of one length.
 pub const TIES: &[u8] = b"p sp 4 4\na 1 2 5\na 3 4 5\na 1 3 5\na 2 4 5\n";
 
 /// A stub at vertex 4, which a path through it enters and leaves by vertex 2.

@@ -1,10 +1,10 @@
--- What the buffer of a reader holds behind a step.
+-- What the buffer of a reader holds after a step.
 use Rattle.std.proofs.Common.{◌≡◌, ℕ, ◌+◌, ◌-◌, ◌≤◌, List, ◌++◌, drop, take, sym, ap, ◌∙◌, arith, append_assoc, take-add}
 use Rattle.std.specs.List.{between}
 use Rattle.std.proofs.lemmas.List.{take-take, drop-drop, drop-take}
 use Rattle.std.proofs.lemmas.Slice.{between_from_start}
 
--- a piece behind the held bytes, which stand at the front
+-- a piece after the held bytes, which stand at the front
 pub between-grown : (xs ys : List ℕ) (start from room n : ℕ) → start ≡ 0 → take from ys ≡ take from xs → n ≤ room → between start (from + n) ys ≡ between start from xs ++ take n (between from (from + room) ys)
 between-grown xs ys start from room n front same few =
     let piece : take n (between from (from + room) ys) ≡ take n (drop from ys) = ap (λ (k : ℕ). take n (take k (drop from ys))) (omega arith) ∙ take-take n room (drop from ys) few in
@@ -19,7 +19,7 @@ pub text_same : (held grown piece before after : List ℕ) → grown ≡ held ++
 text_same held grown piece before after g e =
     ap (λ (zs : List ℕ). held ++ zs) e ∙ sym (append_assoc held piece after) ∙ ap (λ (zs : List ℕ). zs ++ after) (sym g)
 
--- what is held behind the first bytes of what was held
+-- what is held after the first bytes of what was held
 pub between-drop : (xs : List ℕ) (start end' k : ℕ) → start + k ≤ end' → between (start + k) end' xs ≡ drop k (between start end' xs)
 between-drop xs start end' k le =
     ap (λ (n : ℕ). take n (drop (start + k) xs)) (omega arith)

@@ -1,4 +1,4 @@
--- How a text goes on behind a line of it.
+-- How a text goes on after a line of it.
 use Rattle.std.proofs.Common.{◌≡◌, ◌≢◌, ℕ, ◌+◌, ◌-◌, ◌<◌, ◌≤◌, List, [], ◌∷◌, ◌++◌, length, map, get_or, drop, take, Option, Some, None, refl, sym, ap, ◌∙◌, arith, ⊎_elim, subst, take-add, inl, inr}
 use Rattle.std.specs.List.{onto_first}
 use Rattle.std.proofs.lemmas.Bool.{ne_eqb}
@@ -72,7 +72,7 @@ HasNoFeed-from_nowhere hay n le none =
     let below : k < n = omega (arith, length-take-le n hay le) in
     λ e. none k (omega arith) below (eq-eqb (get_or hay k 0) 10 (get_or_default hay k 0 d (omega arith) ∙ sym (get_or-take n hay k d below) ∙ e)))
 
--- a front without a feed, and a rest without one
+-- a prefix without a feed, and a rest without one
 pub HasNoFeed-behind : (bytes : List ℕ) (from n : ℕ) → from + n ≤ length bytes → HasNoFeed (take from bytes) → HasNoFeed (take n (drop from bytes)) → HasNoFeed (take (from + n) bytes)
 HasNoFeed-behind bytes from n le front later =
     rw (take-add from n bytes) (HasNoFeed-append (take from bytes) (take n (drop from bytes)) front later)
@@ -111,7 +111,7 @@ without_return-length raw =
     (λ (ne : get_or raw (length raw - 1) 0 ≡ 13 → ⊥). omega (arith, ap length (without_return-plain raw ne)))
     (cases_eq (get_or raw (length raw - 1) 0) 13)
 
--- bytes up to their first line feed, the feed, and what is behind it
+-- bytes up to their first line feed, the feed, and what is after it
 pub feed-parts : (bytes : List ℕ) (k : ℕ) → IsFeedAt bytes k → bytes ≡ take k bytes ++ 10 ∷ drop (k + 1) bytes
 feed-parts bytes k at' =
     sym (take-append-drop k bytes) ∙ ap (λ (r : List ℕ). take k bytes ++ r) (drop_more bytes k 0 at'.within ∙ ap (λ (b : ℕ). b ∷ drop (k + 1) bytes) at'.feed)

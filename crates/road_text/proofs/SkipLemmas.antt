@@ -34,7 +34,7 @@ HasPassed-more longest raw piece first later passed none e = record {
   long = (let h = passed.long in omega (arith, length-append raw piece));
 }
 
--- the text goes on over a piece that was read behind nothing
+-- the text goes on over a piece that was read where nothing was held
 pub passed_text : (old mid full : LineReader) (raw : List ℕ) → held mid ≡ [] → (x y z : List ℕ) → held old ++ x ≡ raw ++ y → Gives mid full y z More → held old ++ x ≡ raw ++ (held full ++ z)
 passed_text old mid full raw empty x y z text gives =
     text ∙ ap (λ (r : List ℕ). raw ++ r) (sym (ap (λ (h : List ℕ). h ++ y) empty) ∙ gives)

@@ -1,8 +1,8 @@
 -- How far a text has been read.
---   IsBehind most spare text rest before   the text goes on with this rest behind the lines before, which all
+--   IsBehind most spare text rest before   the text goes on with this rest after the lines before, which all
 --                                          have their line feeds; of most bytes the lines to come may take spare
 --   IsRead most text all                   the text was read to its end
---   IsBroken text rest before              a read failed behind the lines before
+--   IsBroken text rest before              a read failed after the lines before
 --   IsOver most text before                the text has more bytes than its lines may take
 -- A text and its rest are what a source tells, with what a reader holds. Two texts that go on alike have lines
 -- that go on alike, whatever follows: so a state that the lines before give is kept beside one of these.

@@ -1,9 +1,10 @@
 -- How a line is cut into fields.
 --   is_blank b       the byte is a space or a tab
+--   has_bytes piece  it has a byte
 --   fields_of line   the runs of bytes that aren't blank
 --   first_byte line  its first byte that isn't blank, where there is one
 --   or_first         the same of a line in two parts, from those of the parts
--- Blanks before the first field and behind the last one mean nothing. A carriage return inside a line is
+-- Blanks before the first field and after the last one mean nothing. A carriage return inside a line is
 -- a byte of a field as any other.
 use Rattle.std.specs.Prelude.{ℕ, ◌==◌, ◌||◌, Bool, true, false, List, [], ◌∷◌, Option, Some, None, filter, if◌then◌else◌}
 use Rattle.std.specs.List.{slice_split}

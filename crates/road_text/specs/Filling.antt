@@ -2,7 +2,8 @@
 --   IsFeedAt bytes k   the first line feed of the bytes stands at place k
 --   IsSameStock        the reader holds the same bytes, has taken as many and may take as many
 --   HandsOut           the reader shows this raw line, or says that it is too long
---   Grows              which bytes a try to read more put behind those that were held
+--   IsKept             the lines may take as many bytes as before, and no limit changes
+--   Grows              which bytes a try to read more put after those that were held
 --   Gives              what such a try took from the source, where it tells
 --   Finishes           the held bytes are handed out at the source's end
 use Rattle.std.specs.Prelude.{◌≡◌, ℕ, ◌+◌, ◌<◌, Bool, true, false, List, [], ◌∷◌, ◌++◌, length, take, slice_index}

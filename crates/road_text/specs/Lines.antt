@@ -1,5 +1,6 @@
 -- How a text is cut into lines.
---   raw_lines text       its pieces between line feeds; bytes behind the last line feed are a last piece
+--   raw_lines text       its pieces between line feeds; bytes after the last line feed are a last piece
+--   onto_whole b pieces  a byte put before the first piece, where there is one
 --   whole_raw_lines text those pieces that have their line feed
 --   without_return raw   the piece without one carriage return at its end
 --   lines_of text        the lines of the text: each piece without its carriage return

@@ -1,6 +1,7 @@
 -- Numbers as texts write them.
 --   is_number field      1 to 19 decimal digits, leading zeros included
 --   number_of field      the number that they write, where the field is one
+--   has_leading_zero field   a zero stands before another digit
 --   canonical_of field   the same, where no needless zero leads
 -- The canonical digits of a number are std's `decimal`.
 use Rattle.std.specs.Prelude.{ℕ, ◌==◌, ◌&&◌, Bool, List, Option, Some, None, length, slice_index, nat_lt, nat_le, if◌then◌else◌}

@@ -4,11 +4,19 @@
 --   budget r      how many bytes its lines may still take
 --   limit_of r    the longest line that it shows, its end not counted
 --   IsFresh       a new reader: it holds nothing, and its lines may take all the bytes that it allows
---   IsLine        the text begins with this raw line and its line feed, and this is behind it
+--   IsLine        the text begins with this raw line and its line feed, and this is after it
 --   IsLastLine    the text is this raw line, which has no line feed
+--   Shows         the reader shows the raw line without its end, which is within the limit
 --   IsTooLong     the raw line isn't shown, since its line is longer than the limit
+--   IsFirstOf     the first byte that isn't blank is the same in a raw line and its line; or in the raw line it is the
+--                 dropped carriage return, and the line has none
 --   IsLongLine    the same, of the line
+--   HasTaken      the lines may take so many bytes less, and the limit is the same
+--   IsCutOff      the text begins with these bytes, which have no line feed, and goes on with this rest
+--   IsSpent       the text begins with as many bytes as the lines may take, and one more, with no line feed before it
 --   Steps         what one step did to a text, which is what the reader held and what the source had left
+--   GoesOn        a line was handed out, and more may follow
+--   IsShown       a line is shown
 -- Of a source that tells nothing only its count of faults is known.
 use Rattle.std.specs.Prelude.{◌≡◌, ℕ, ◌+◌, ◌-◌, ◌<◌, ◌≤◌, true, false, List, [], ◌∷◌, ◌++◌, ◌⊎◌, Option, None, Some, length, slice_range}
 use Rattle.road_text.specs.declared.line_reader.LineReader.{LineReader}
@@ -63,7 +71,7 @@ pub record IsLongLine (longest : ℕ) (line : List ℕ) (first : Option ℕ) : T
   pub long : longest < length line
   pub first_is : IsFirstOf first (first_byte line)
 
--- a text goes on behind these bytes
+-- the lines may take so many bytes less, and the limit is the same
 pub record HasTaken (old new : LineReader) (bytes : ℕ) : Type 0 where
   pub count : budget new + bytes ≡ budget old
   pub longest : limit_of new ≡ limit_of old

@@ -16,7 +16,7 @@ use std::alloc::{AllocError, Global};
 /// The longest line that a reader can be asked to keep.
 pub const MOST_KEPT: usize = 32768;
 
-/// How many bytes a reader keeps: room for a read of at least 64 KB beside a line that isn't whole.
+/// How many bytes a reader keeps: room for a read of at least 64 KB after a line that isn't whole.
 const ROOM: usize = 131072;
 
 /// What one step of a reader came to.
@@ -52,8 +52,9 @@ enum Fill {
 
 /// Reads a source by large pieces, and shows it line by line.
 ///
-/// It keeps 128 KB, whatever the lengths of lines. A byte is copied at most once, where its line
-/// crosses two pieces.
+/// It keeps 128 KB, whatever the lengths of lines. Before each read it moves the bytes that it holds
+/// of a line, at most one more than a line that is shown may have, to the front of its buffer. A
+/// source that gives large pieces has few bytes moved.
 #[derive(Drop)]
 pub struct LineReader {
     buffer: Vec<u8>,
@@ -122,7 +123,7 @@ impl LineReader {
         if whole { Advance::Whole } else { Advance::Last }
     }
 
-    /// Hands out the next raw line, whose line feed stands behind `size` of the held bytes.
+    /// Hands out the next raw line, whose line feed stands after `size` of the held bytes.
     fn whole(&mut self, size: usize) -> Advance
         requires { IsFeedAt (held self.old) size }
         ensures line { IsLine (held self.old) (take size (held self.old)) (held self.new) }
@@ -160,7 +161,7 @@ impl LineReader {
         self.start = 0;
     }
 
-    /// Reads behind the held bytes, which stand at the front of the buffer.
+    /// Reads more after the held bytes, which stand at the front of the buffer.
     fn pull<S: Source>(&mut self, source: &mut S) -> Fill
         requires front { self.old.start ≡ 0 }
         requires room { self.old.end < ROOM }
@@ -208,7 +209,7 @@ impl LineReader {
         }
     }
 
-    /// Tries to read more behind the held bytes.
+    /// Tries to read more after the held bytes.
     fn fill<S: Source>(&mut self, source: &mut S) -> Fill
         requires { length (held self.old) ≤ self.old.longest + 1 }
         ensures kept { IsKept self.old self.new }
@@ -281,8 +282,9 @@ impl LineReader {
 
     /// Goes on to the next line.
     ///
-    /// After `Last`, `End`, `Spent` and `Failed` nothing is owed of further steps. A step takes time
-    /// in proportion to the bytes that it passes over, and no memory.
+    /// After `Last`, `End`, `Spent` and `Failed` nothing is owed of further steps. A step takes no memory,
+    /// and time linear in the bytes that it passes over and, for each read that it makes, in those that
+    /// it holds of the line by then.
     pub fn advance<S: Source>(&mut self, source: &mut S) -> Advance
         ensures steps { IfTold (S.left source.old) (S.left source.new)
             (λ rest after. Steps self.old self.new (held self.old ++ rest) after result) }

@@ -26,7 +26,7 @@ pub fn number(bytes: &[u8]) -> Option<u64>
     Some(value)
 }
 
-/// The number that 1 to 19 decimal digits write without a needless zero in front.
+/// The number that 1 to 19 decimal digits write without a needless zero before it.
 pub fn canonical_number(bytes: &[u8]) -> Option<u64>
     ensures { result ≡ canonical_of bytes.now }
 {

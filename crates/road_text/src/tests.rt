@@ -3,7 +3,7 @@ use road_io::MemSource;
 use std::alloc::{AllocError, Global};
 use std::test::Fail;
 
-/// What a reader gives of a text: each line behind its mark, and the mark of the end. `+` is a whole
+/// What a reader gives of a text: each line after its mark, and the mark of the end. `+` is a whole
 /// line, `-` the last one, `L` and `l` are long ones with their first byte, `.` is the end, `!` too
 /// many bytes and `?` a failed read.
 fn trace(

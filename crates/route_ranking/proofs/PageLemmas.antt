@@ -1,4 +1,4 @@
--- The pages of a chain, one behind another.
+-- The pages of a chain, one after another.
 use Rattle.std.proofs.Common.{◌≡◌, ℕ, ◌+◌, ◌<◌, ◌≤◌, Bool, true, false, List, [], ◌∷◌, ◌++◌, length, take, drop, refl, sym, ap, ◌∙◌, arith}
 use Rattle.std.specs.Prelude.{MatchBool, ◌↔◌}
 use Rattle.std.proofs.lemmas.Bool.{iff_false}
@@ -6,7 +6,7 @@ use Rattle.std.proofs.lemmas.List.{append-nil, take_all, drop-drop, take-append-
 use Rattle.road_model.specs.declared.answer.PageSpan.{PageSpan}
 use Rattle.route_ranking.specs.Chains.{IsChain, joined}
 
--- a page behind which others follow
+-- a page that others follow
 page_then : {X : Type 0} (xs : List X) (offset first count : ℕ) (later : List X) → first ≡ offset → later ≡ drop (first + count) xs → take count (drop first xs) ++ later ≡ drop offset xs
 page_then {X = X} xs offset first count later same rest =
     ap (λ (ys : List X). take count (drop first xs) ++ ys) (rest ∙ ap (λ (n : ℕ). drop n xs) (omega arith) ∙ sym (drop-drop count first xs))

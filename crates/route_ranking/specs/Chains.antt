@@ -1,8 +1,8 @@
--- Pages one behind another.
+-- Pages one after another.
 --   IsChain total size offset spans   the pages from the offset on, each of which begins where the one before ended,
---                                     up to the first behind which no item stands
+--                                     up to the first after which no item stands
 --   items_of span xs                  the items of a page, where xs are all items
---   joined spans xs                   the items of these pages, one behind another
+--   joined spans xs                   the items of these pages, one after another
 use Rattle.std.specs.Prelude.{◌≡◌, ℕ, ◌+◌, List, [], ◌∷◌, take, drop, MatchBool}
 use Rattle.std.specs.List.{flat_map}
 use Rattle.road_model.specs.declared.answer.PageSpan.{PageSpan}

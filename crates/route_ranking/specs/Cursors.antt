@@ -1,6 +1,11 @@
 -- A cursor as a text: eleven canonical numbers with a dot between each two.
 --   numbers_of c     its numbers, in the order of the text
 --   cursor_text c    the text
+--   with_number n ns   a number before others, where all are given
+--   all_numbers fields   the numbers of all fields, where each is canonical
+--   query_with ns    the query of a cursor of these numbers
+--   cursor_with ns   the cursor of these numbers
+--   of_eleven ns     the same, where they are given and are eleven
 --   cursor_of text   the cursor of a text, where it is one: its numbers have at most 19 digits
 --   IsSmall c        each of its numbers is below 10^19, so that its text is in the grammar
 use Rattle.std.specs.Prelude.{ℕ, ◌<◌, ◌^◌, ◌==◌, List, [], ◌∷◌, Option, Some, None, All, map, length, slice_index, decimal, if◌then◌else◌}

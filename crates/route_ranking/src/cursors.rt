@@ -72,7 +72,7 @@ fn read_numbers(text: &[u8]) -> Option<[u64; NUMBERS]>
 
 /// Writes the text of a cursor, which [`read_cursor`] reads as that cursor where each of its numbers is below 10^19.
 ///
-/// It takes no memory. After `Failed` a front of the text is written.
+/// It takes no memory. After `Failed` a prefix of the text is written.
 pub fn write_cursor<K: Sink>(sink: &mut K, cursor: &Cursor) -> Put
     ensures writes { Writes (cursor_text cursor.now) (K.written sink.old) (K.written sink.new) result }
     ensures count { K.faults sink.old ≤ K.faults sink.new }
@@ -100,7 +100,7 @@ pub fn write_cursor<K: Sink>(sink: &mut K, cursor: &Cursor) -> Put
     sink.write(&room[..used])
 }
 
-/// Puts a number's digits behind the first `used` bytes, and returns how many are used then.
+/// Puts a number's digits after the first `used` bytes, and returns how many are used then.
 fn put_number(room: &mut [u8], used: usize, number: u64) -> usize
     requires { used + MOST_DIGITS ≤ length room.old }
     ensures used { result ≤ used + MOST_DIGITS }
@@ -110,7 +110,7 @@ fn put_number(room: &mut [u8], used: usize, number: u64) -> usize
     put_piece(room, used, buffer.format(number).as_bytes())
 }
 
-/// Puts a piece behind the first `used` bytes, and returns how many are used then.
+/// Puts a piece after the first `used` bytes, and returns how many are used then.
 fn put_piece(room: &mut [u8], used: usize, piece: &[u8]) -> usize
     requires { used + length piece.now ≤ length room.old }
     ensures used { result ≡ used + length piece.now }

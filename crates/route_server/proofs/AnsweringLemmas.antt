@@ -23,7 +23,7 @@ no_lines = refl
 idle : (text out : List ℕ) → Idle text text out out
 idle text out = record { unread = refl; unwritten = refl }
 
--- a read fault behind which nothing of the input was read
+-- a read fault where nothing of the input was read
 fault_unread : (r : Result Graph GraphFault) (text out : List ℕ) → AnswersGraph r text text out out the.ReadFault
 fault_unread (Ok g) text out = record {
   last = opening;

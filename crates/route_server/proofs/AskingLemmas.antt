@@ -36,7 +36,7 @@ nothing_more : (xs : List Parsed) → xs ++ [] ≡ xs
 nothing_more [] = refl
 nothing_more (x ∷ xs) = ap (λ (ys : List Parsed). x ∷ ys) (nothing_more xs)
 
--- behind a line that ends the run nothing is asked
+-- after a line that ends the run nothing is asked
 pub asked_in-cut : (before more : List (List ℕ)) (line : List ℕ) → NoQuit before → is_quit (asked_by line) ≡ true → asked_in ((before ++ line ∷ []) ++ more) ≡ asked_in before
 asked_in-cut [] more line h e = asked_in-quit line more e ∙ sym asked_in-nothing
 asked_in-cut (b ∷ before) more line h e =
@@ -74,7 +74,7 @@ take_behind (b ∷ given) rest (suc n) h =
     ap (λ (x : List ℕ). b ∷ x) (take_behind given rest n (omega arith))
     ∙ ap (λ (k : ℕ). b ∷ (given ++ take k rest)) (let e : n - length given ≡ suc n - suc (length given) = omega arith in e)
 
--- a text that goes on behind these lines has them first, within the limit
+-- a text that goes on after these lines has them first, within the limit
 pub within_behind : (spare : ℕ) (text rest : List ℕ) (before : List (List ℕ)) → IsBehind most_input spare text rest before → (more : List (List ℕ)) × (lines_within text ≡ before ++ more)
 within_behind spare text rest before at' =
     ⊎_elim

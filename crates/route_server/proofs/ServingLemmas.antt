@@ -1,4 +1,4 @@
--- A run over request lines: what stands written behind each, and how it may end.
+-- A run over request lines: what stands written after each, and how it may end.
 use Rattle.std.proofs.Common.{◌≡◌, ℕ, false, List, [], ◌∷◌, ◌++◌, Option, None, refl, sym, ap, ◌∙◌, subst, append_assoc, inl, inr}
 use Rattle.std.proofs.lemmas.List.{append-nil}
 use Rattle.road_model.specs.Graph.{Graph}

@@ -2,8 +2,10 @@
 --   most_input       the most bytes of requests that a run reads
 --   lines_within t   the lines of a text, where it has no more bytes; else those that end among so many bytes
 --   asked_by line    what a line asks of one who reads
+--   is_quit_request r   the request ends the run
 --   is_quit line     the line ends the run
 --   asked_in lines   what the lines before the first such line ask, in their order
+--   NoQuit lines     no line ends the run
 use Rattle.std.specs.Prelude.{◌≡◌, ℕ, Bool, true, false, List, [], ◌∷◌, length, take, nat_le, if◌then◌else◌}
 use Rattle.std.specs.List.{AllByRecursion}
 use Rattle.road_text.specs.Lines.{lines_of, whole_lines}

@@ -1,4 +1,4 @@
--- What the end of a run says of the outside, whatever stands written.
+-- What the end of a run says of the files, the input and the output, whatever stands written.
 --   IsRefusal status             the words were refused, or the graph file was
 --   IsEarly status               a command that writes one text ended before its write
 --   IsWhole status               the work was done, or memory was refused, or the input is too long
@@ -6,8 +6,9 @@
 --   IsAccepted shelf name        the shelf tells its files, and that of the name is a graph file without a fault
 --   IsReady command shelf name   there is a command, and the graph file that it names, if it does, is accepted
 --   HasFault told name fault     the file of the name has this first fault
---   IsUnjudged told name after   the file of the name couldn't be picked, and the shelf is as before; or a read of it failed
---                                behind whole lines that have no fault
+--   IsCutOff told name after     a read of the file of the name failed after whole lines that have no fault
+--   IsUnjudged told name after   the file of the name couldn't be picked, and the shelf is as before; or a read of it
+--                                failed so
 --   IsLong text                  the text is too long, and no line that ends within the limit ends the run
 use Rattle.std.specs.Prelude.{◌≡◌, ℕ, ◌<◌, ◌⊎◌, List, Option, Some, None, Ok, Err, length}
 use Rattle.road_io.specs.Told.{Told}

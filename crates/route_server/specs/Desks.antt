@@ -2,6 +2,8 @@
 --   IsDesk asked            it asks about routes, or for the version
 --   IsDeskRequest request   the same of a request
 --   IsReaders request       it isn't a change
+--   IsReadersLine asked     the same of what a line asks
+--   IsReadersNext next      the same of the next line, where there is one
 --   IsSaid g state asked said next   what is said to a line, and the state after it
 use Rattle.std.specs.Prelude.{◌≡◌, true, false}
 use Rattle.road_model.specs.declared.request.Request.{Request}
@@ -32,7 +34,7 @@ IsDeskRequest the.Publish = ⊥
 IsDeskRequest the.Quit = ⊥
 IsDeskRequest r = Unit {0}
 
--- a line that doesn't ask for changes, as no line of one who only reads does
+-- a request for no change, as each is of one who only reads
 abbrev pub IsReaders : Request → Type 0
 IsReaders (the.Length arc length) = ⊥
 IsReaders the.Publish = ⊥

@@ -1,10 +1,16 @@
 -- What a run that writes one text does: out stood written before, now stands written.
---   Gives IsText out now status     Done: a text that is one stands behind it; WriteFault: a front of one does; a read fault and
---                                   want of memory: nothing was written
---   Refuses fault status            the graph's first fault; a read fault and want of memory may come before it is found
---   GivesOf IsText file ..          the same of the graph that a file gives. Its first fault comes before anything is written; where
---                                   there is no such file, a read fault does
+--   IsGiven IsText out now          a text that is one stands after what stood before
+--   IsGivenFront IsText out now     a prefix of such a text does
+--   Gives IsText out now status     Done: such a text stands there; WriteFault: a prefix of one does; where a read
+--                                   failed or memory was refused, nothing was written
+--   Refuses fault status            the graph's first fault; a failed read or refused memory may end the run before it
+--                                   is found
+--   GivesGraph IsText r ..          Gives of the graph, or its first fault is refused and nothing was written
+--   GivesOf IsText file ..          the same of what a file gives; where there is no such file, a read fault, and
+--                                   nothing was written
 --   check_text g                    the line that says how large a graph is
+--   IsCheck g text, IsPrint g text  the text is that line, or the canonical text of the graph
+--   ends_by put                     how a run ends with its last write
 use Rattle.std.specs.Prelude.{◌≡◌, ℕ, List, [], ◌∷◌, ◌++◌, Option, Some, None, Result, Ok, Err, codes, decimal}
 use Rattle.road_io.specs.Sink.{WritesFront}
 use Rattle.road_model.specs.Graph.{Graph, arc_count}

@@ -1,10 +1,15 @@
--- How far the lines of an input have been read. Where the text goes on, behind the lines before, with what the
--- reader holds and what the source has left, the next line
---   More asked   is one more, asks this, and the text goes on behind it
---   Last asked   is one more, asks this, and is the last
---   End          isn't there
---   Over         doesn't end among as many bytes as may be read
---   Failed       couldn't be read
+-- How far the lines of an input have been read.
+--   IsAt reader text rest before   the text goes on, after the lines before, with what the reader holds and what the
+--                source has left
+--   OneMore      there is one more line, it asks this, and the text goes on after it
+--   OneLast      there is one more line, it asks this, and is the last
+--   Goes         of each text that goes on so, the next line
+--     More asked   is one more, asks this, and the text goes on after it
+--     Last asked   is one more, asks this, and is the last
+--     End          isn't there
+--     Over         doesn't end among as many bytes as may be read
+--     Failed       couldn't be read
+--   IsMore next  more lines may follow
 use Rattle.std.specs.Prelude.{◌≡◌, ℕ, List, [], ◌∷◌, ◌++◌}
 use Rattle.road_text.specs.declared.line_reader.LineReader.{LineReader}
 use Rattle.road_text.specs.Reader.{held, budget}

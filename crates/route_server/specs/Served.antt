@@ -1,9 +1,11 @@
 -- How the reply to one line ends, where out stood written before and now stands afterwards, and the state goes on to
 -- the next.
---   Written      the reply stands after it
---   Quit         the line ends the run, and nothing was written
---   WriteFault   a front of the reply stands after it
---   NoMemory     nothing was written
+--   IsServed       the line doesn't end the run, and its reply stands after what stood before
+--   IsServedFront  the line doesn't end the run, and a prefix of its reply stands there
+--   IsQuit         the line ends the run, and nothing was written
+--   Serves         Written: its reply stands there; Quit: it ends the run; WriteFault: a prefix of its reply stands
+--                  there; NoMemory: nothing was written
+--   Sends          the same of the write of a reply, which ends no run
 use Rattle.std.specs.Prelude.{◌≡◌, ℕ, true, false, List, ◌++◌}
 use Rattle.road_model.specs.Graph.{Graph}
 use Rattle.desk_core.specs.States.{State}

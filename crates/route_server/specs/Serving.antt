@@ -1,12 +1,15 @@
 -- What a run over request lines writes.
 --   opening                    the state that a run begins with: nothing is published or staged, and no answer is kept
 --   limits_of g                what requests are tested against in it
+--   IsRequestReply ..          the bytes are the lines of a reply to the request, which is a step from the state
 --   IsReply g state asked bytes next   the bytes that one line gets, and the state after it: none for a line that says
 --                              nothing, else the lines of a reply
+--   IsTurnOf request turns later bytes others   the first turn is of this request, and the bytes begin with its reply
 --   AreSaid asked turns bytes  the bytes that these lines get, one after another, where the turns are those of the requests
 --                              among them
 --   IsReplies g state asked bytes last   the same, where the turns are a run from the state to the last
 --   Written g lines out now last   the replies to these lines stand after what stood before, from the opening on
+--   WrittenFront ..            a prefix of these replies stands there
 --   Stops g text rest out now status   how a run over the lines of a text may end: rest is what is left to read,
 --                              out what stood written before, now what stands written
 --     Done        every line has its reply, to the end of the text or to the line that ends the run
@@ -15,6 +18,8 @@
 --                 them ends the run
 --     WriteFault  a prefix of the replies to some of its first lines, which end among so many bytes
 --     NoMemory    the replies to some of its first lines, which end among so many bytes
+--   IsDone, IsCut, IsOverlong, IsUnwritten, IsStarved   what that says of Done, ReadFault, InputLong, WriteFault and
+--                              NoMemory
 use Rattle.std.specs.Prelude.{◌≡◌, ◌<◌, ◌≤◌, ◌⊎◌, ℕ, false, List, [], ◌∷◌, ◌++◌, Option, None, length, take}
 use Rattle.road_model.specs.declared.answer.Plan.{Plan}
 use Rattle.road_model.specs.declared.request.Reply.{Reply}

@@ -1,4 +1,5 @@
 -- The number that the process ends with.
+--   status_number status   0 where the work was done, else one for each reason why it wasn't
 use Rattle.std.specs.Prelude.{ℕ}
 use Rattle.route_server.specs.declared.status.Status.{Status}
 use Rattle.route_server.specs.declared.status.Status.TheVariants.{Done, Usage, GraphRefused, ReadFault, WriteFault, NoMemory, InputLong}

@@ -1,7 +1,16 @@
 -- The words of a command line.
---   command_of words   the command, where the words are those of one: `check GRAPH`, `print GRAPH`, `make SEED WIDTH HEIGHT`,
---                      `survey SEED WIDTH HEIGHT QUERIES` or `answer GRAPH`
+--   has_dash word      it begins with a dash
+--   for_file command words   the command, where one word follows that may name a file
+--   at_most most n     the number, where it is 1 to most
+--   up_to most word    the number of a word, where it is 1 to most
+--   grid_of seed width height   the grid of three words
+--   make_of, survey_of   the command of the words after `make`, or after `survey`
+--   behind_word word words   the command of a word and the words after it
+--   command_of words   the command, where the words are those of one: `check GRAPH`, `print GRAPH`,
+--                      `make SEED WIDTH HEIGHT`, `survey SEED WIDTH HEIGHT QUERIES` or `answer GRAPH`
 --   name_of words      the second word, which is the name of the graph file where the command has one
+--   HasSides grid      the sides of a grid are in range
+--   IsSized command    the numbers of a command are in range
 -- GRAPH begins with no dash. Numbers have 1 to 19 digits; WIDTH and HEIGHT are 1 to 4096, and QUERIES is 1 to 10000.
 use Rattle.std.specs.Prelude.{ℕ, ◌≤◌, ◌==◌, ◌&&◌, Bool, false, List, [], ◌∷◌, Option, Some, None, codes, nat_le, slice_index_or, if◌then◌else◌}
 use Rattle.std.specs.Option.{option_map, option_zip, option_and_then}

@@ -133,7 +133,7 @@ fn answered<O: Oracle>(
 
 /// Replies to a request: its refusal, or its answer, or that memory was refused.
 ///
-/// A page costs a plan, since none is kept. Searches are made in the memory.
+/// A page takes the time of a plan, since no plan is kept. Searches are made in `memory`.
 pub fn reply_to<O: Oracle>(
     alloc: Global,
     memory: &mut PlanMemory,

@@ -25,8 +25,11 @@ use std::thread::Threads;
 /// Does all that the program does: takes the words of the command line, reads graph files from the shelf and requests
 /// from the input, and writes to the output.
 ///
-/// `check` and `print` take 16 bytes an arc, `make` 16 bytes an arc of its grid, `answer` and `survey` 40 bytes an arc and 8 a vertex, and
-/// for one request at a time what its searches need.
+/// `check` and `print` take 16 bytes an arc, and 128 KB while they read; `make` takes 16 bytes an arc of its grid.
+/// `answer` and `survey` take 40 bytes an arc and 96 bytes a vertex: 8 for the graph, and 88 for searches and plans,
+/// which are kept from one query to the next with what the largest searches so far needed. Besides, `answer` keeps
+/// 128 KB for lines, the longest reply, and once distances were asked often enough a hierarchy in place of 8 of the 88
+/// bytes.
 pub fn run<R: Threads + Sync, F: Shelf, S: Source, K: Sink>(
     _rt: &R,
     alloc: Global,
@@ -85,7 +88,7 @@ pub fn run<R: Threads + Sync, F: Shelf, S: Source, K: Sink>(
         (HasRisen (S.faults input.old) (S.faults input.new) → ⊥) →
         (HasRisen (K.faults output.old) (K.faults output.new) → ⊥) → IsWhole result }
 
-    // Faults come from outside alone, and end the run.
+    // Faults come from the shelf, the input and the output alone, and end the run.
     ensures read_cause { result ≡ Status.ReadFault →
         HasRisen (F.faults shelf.old) (F.faults shelf.new) ⊎ HasRisen (S.faults input.old) (S.faults input.new) }
     ensures write_cause { result ≡ Status.WriteFault → HasRisen (K.faults output.old) (K.faults output.new) }

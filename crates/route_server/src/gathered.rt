@@ -34,7 +34,7 @@ impl Gathered {
         self.bytes.as_slice()
     }
 
-    /// Nothing again. Its memory stays for what comes.
+    /// Drops the bytes, and keeps their memory for what comes.
     pub fn clear(&mut self)
         ensures nothing { gathered self.new ≡ [] }
         ensures count { refusals self.new ≡ refusals self.old }

@@ -13,7 +13,7 @@ use road_io::{Picked, Shelf};
 use road_model::GraphFile;
 use std::alloc::Global;
 
-/// Reads the named graph file. It takes 16 bytes an arc.
+/// Reads the named graph file. It takes 16 bytes an arc, and 128 KB while it reads.
 pub fn read_named<F: Shelf>(
     alloc: Global,
     name: &str,
@@ -33,7 +33,8 @@ pub fn read_named<F: Shelf>(
     }
 }
 
-/// Reads the named graph file, and lays it out for searches. It takes 40 bytes an arc and 8 a vertex.
+/// Reads the named graph file, and lays it out for searches. It takes 40 bytes an arc and 8 a vertex, and 128 KB while
+/// it reads.
 pub fn load<F: Shelf>(alloc: Global, name: &str, shelf: &mut F) -> Result<Star, GraphError>
     ensures loads { IfSome (F.left shelf.old) (λ told. Loads (told.files name.now) result) }
     ensures count { F.faults shelf.old ≤ F.faults shelf.new }

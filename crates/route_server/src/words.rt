@@ -81,7 +81,7 @@ fn read_grid(seed: &String, width: &String, height: &String) -> Option<Grid>
     })
 }
 
-/// The words behind `make`.
+/// The words after `make`.
 fn read_make(words: &[String]) -> Option<Command>
     ensures command { result ≡ make_of (map (λ w. string_bytes w) words.now) }
     ensures sized { IfSome result IsSized }
@@ -92,7 +92,7 @@ fn read_make(words: &[String]) -> Option<Command>
     Some(Command::Make(read_grid(seed, width, height)?))
 }
 
-/// The words behind `survey`.
+/// The words after `survey`.
 fn read_survey(words: &[String]) -> Option<Command>
     ensures command { result ≡ survey_of (map (λ w. string_bytes w) words.now) }
     ensures sized { IfSome result IsSized }
@@ -105,7 +105,7 @@ fn read_survey(words: &[String]) -> Option<Command>
     Some(Command::Survey(grid, queries))
 }
 
-/// The command of a word and the words behind it.
+/// The command of a word and the words after it.
 fn behind_word(word: &str, words: &[String]) -> Option<Command>
     ensures command { result ≡ behind_word word.now (map (λ w. string_bytes w) words.now) }
     ensures sized { IfSome result IsSized }

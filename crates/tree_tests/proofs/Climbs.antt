@@ -92,7 +92,7 @@ sums_set ts side o sums v k inside h own w j is =
     h w j (sym there ∙ is))
     (cases_eq w v)
 
--- the vertex behind a step carries what the step doesn't
+-- the vertex that a step leads to carries what the step doesn't
 pub record OnFill (ts : Trees) (side : Side) (o : List ℕ) (at near left : ℕ) (sums : List (Option ℕ)) : Type 0 where
   pub inside : IsInTree ts side at
   pub dist : TreeDist ts side at near

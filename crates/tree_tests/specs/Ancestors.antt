@@ -10,6 +10,7 @@
 --   AreWays ts from to    the entries of both sides
 --   IsLifted ts side a b  whatever vertex a lies on the path of, b does too
 --   AreLifted             the same of two at once
+--   AreHigher             Some: the same of the two that were found; None says nothing
 --   IsMet, IsAhead        Some: such a vertex; None says nothing
 use Rattle.std.specs.Prelude.{◌≡◌, ℕ, List, ◌++◌, Option, Some, None}
 use Rattle.std.specs.List.{slice_index_or}

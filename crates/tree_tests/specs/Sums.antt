@@ -5,7 +5,7 @@
 --   TreeDist ts side v d   d is the distance between the two
 --   IsInTree ts side v     v is inside that side's ball
 --   IsUpStep ts side v x   x is the first step from v towards the root; each path of v is that arc and one path of
---                          the vertex behind it
+--                          the vertex that it leads to
 --   IsUp ts side v o       Some: such a step; None: v is the root, so its path has no arc
 --   IsSumAt ts side o v k  k is what the path of v carries; it isn't above the distance
 --   AreSums ts side o sums each sum that is there is that of its vertex

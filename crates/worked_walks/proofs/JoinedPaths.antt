@@ -1,4 +1,4 @@
--- Two canonical paths, one behind the other.
+-- Two canonical paths, one after the other.
 use Rattle.std.proofs.Common.{◌≡◌, ℕ, ◌<◌, ◌≤◌, ◌^◌, List, ◌++◌, length, Option, Some, IfSome, refl, sym, subst, arith}
 use Rattle.road_model.specs.declared.answer.Optimum.{Optimum}
 use Rattle.road_model.specs.declared.trail.Trail.{Trail}
