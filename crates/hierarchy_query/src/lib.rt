@@ -3,6 +3,7 @@
 
 mod adaptive;
 mod climb;
+mod least_hills;
 mod oracle;
 mod tables;
 
