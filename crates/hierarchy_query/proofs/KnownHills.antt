@@ -5,7 +5,7 @@ use Rattle.std.proofs.lemmas.Bool.{cases_lt}
 use Rattle.std.proofs.lemmas.List.{get_or_append_left, get_or-append_right}
 use Rattle.hierarchy_build.specs.declared.links.Links.{Links}
 use Rattle.hierarchy_build.specs.declared.hierarchy.Hierarchy.{Hierarchy}
-use Rattle.hierarchy_build.specs.Hills.{IsRise, rise_length, Hill, HasHill}
+use Rattle.hierarchy_build.specs.Hills.{IsRise, rise_length, HasHill}
 use Rattle.hierarchy_build.specs.Runs.{InSpan, IsUp, IsShape, HasPlace}
 use Rattle.hierarchy_build.specs.Lengths.{no_link}
 use Rattle.hierarchy_build.specs.Links.{links_of}
@@ -355,6 +355,10 @@ Settling-start first head least x from found place inside end h =
       done = (λ lt. absurd (omega arith));
     }
 
+pub ready_before : (first head least : List ℕ) (x from : ℕ) (found : List ℕ) (place next y z : ℕ) → next + 1 ≡ place → from ≤ next → slice_index found next ≡ y → Settling first head least x from found place → IsUp first head y z → IsKnown least z
+ready_before first head least x from found place next y z before late is h up =
+    h.ready next z late before (subst (λ (w : ℕ). IsUp first head w z) (sym is) up)
+
 pub Settling-more : (first head least : List ℕ) (x from : ℕ) (found : List ℕ) (place next y best : ℕ) → next + 1 ≡ place → from ≤ next → slice_index found next ≡ y → y < length least → best ≤ no_link → Settling first head least x from found place → Settling first head (set least y best) x from found next
 Settling-more first head least x from found place next y best before late is there real h =
     let inside = h.inside in
@@ -414,3 +418,12 @@ AreLeast-none n h s least u =
       listed = (λ x inside known. let above = u.unknown x inside in let r : HasPlace [] 0 x = absurd (omega arith) in r);
       ranks = (λ k lt. absurd (omega arith));
     }
+
+-- by what the code read
+pub closed_read : (n : ℕ) (h : Hierarchy) (s : ℕ) (least found first head read : List ℕ) → first ≡ h.shape.value.first → head ≡ h.shape.value.head → read ≡ least → AreLeast n h s least found → (y z : ℕ) → y < length read → IsKnown read y → IsUp first head y z → IsKnown read z
+closed_read n h s least found first head read is_first is_head is a y z inside known up =
+    let size = a.size in
+    let long : length read ≡ length least = ap (λ (xs : List ℕ). length xs) is in
+    let was : IsKnown least y = subst (λ (xs : List ℕ). IsKnown xs y) is known in
+    let up' : IsUp h.shape.value.first h.shape.value.head y z = subst (λ (xs : List ℕ). IsUp h.shape.value.first xs y z) is_head (subst (λ (xs : List ℕ). IsUp xs head y z) is_first up) in
+    subst (λ (xs : List ℕ). IsKnown xs z) (sym is) (a.closed y z (omega arith) was up')

@@ -3,3 +3,4 @@ pub mod Meets
 pub mod Asks
 pub mod DistanceLists
 pub mod KnownHills
+pub mod Sources

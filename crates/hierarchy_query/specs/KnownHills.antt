@@ -13,7 +13,7 @@ use Rattle.hierarchy_build.specs.declared.hierarchy.Hierarchy.{Hierarchy}
 use Rattle.hierarchy_build.specs.Runs.{InSpan, IsUp, HasPlace}
 use Rattle.hierarchy_build.specs.Lengths.{no_link}
 use Rattle.hierarchy_query.specs.declared.least_hills.LeastHills.{LeastHills}
-use Rattle.hierarchy_query.specs.Climbs.{IsClimbed, IsReached, IsLeastHill}
+use Rattle.hierarchy_query.specs.Climbs.{IsClimbed, IsLeastHill}
 use Rattle.hierarchy_query.specs.Asks.{up_links, down_links}
 
 abbrev pub IsKnown : List ℕ → ℕ → Type 0

@@ -3,3 +3,4 @@ pub mod Asks
 pub mod Tables
 pub mod Engines
 pub mod KnownHills
+pub mod Sources

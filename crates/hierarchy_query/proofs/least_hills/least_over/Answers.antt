@@ -1,4 +1,4 @@
-use Rattle.std.proofs.Common.{◌≡◌, List, ℕ, slice_index, ap, arith, rules}
+use Rattle.std.proofs.Common.{rules}
 use Rattle.hierarchy_build.specs.Runs.{InSpan}
 use Rattle.hierarchy_query.proofs.KnownHills.{LeastSoFar-more}
 use Rattle.hierarchy_query.proofs.least_hills.least_over.Goals as goal

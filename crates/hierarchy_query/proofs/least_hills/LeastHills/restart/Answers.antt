@@ -1,5 +1,6 @@
-use Rattle.std.proofs.Common.{◌≡◌, ℕ, List, length, slice_index, sym, ap, ◌∙◌, subst, arith, rules}
-use Rattle.hierarchy_build.specs.Runs.{IsShape}
+use Rattle.std.proofs.Common.{◌≡◌, ℕ, List, length, sym, ap, ◌∙◌, subst, arith, rules}
+use Rattle.std.specs.Vec.{with_items}
+use Rattle.std.proofs.lemmas.List.{with_items_is}
 use Rattle.hierarchy_query.specs.Climbs.{IsClimbed}
 use Rattle.hierarchy_query.specs.KnownHills.{AreUnknown, AreLeast}
 use Rattle.hierarchy_query.proofs.Meets.{CanClimb-read, blank_or_above}
@@ -19,4 +20,23 @@ clear-requires-2-clause-above c = λ y inside.
     blank_or_above (length h.shape.value.order) c.as_slice-first.result.now c.as_slice-head.result.now h.up c.args.self.now.from c.deref_mut-2.result.now can c.requires.hills.from climbed y (omega arith)
 
 pub returns-clause-hills : goal.returns-clause-hills
-returns-clause-hills c = ?
+returns-clause-hills c =
+    let h = c.args.hierarchy.now in
+    let size = c.requires.hills.climbed.size in
+    let size_least = c.requires.hills.least.size in
+    let rising_read = c.deref_mut-3.ensures.len in
+    let climbed_long = c.climb.ensures.size in
+    let n_rising : length c.deref_mut-3.result.now ≡ length h.shape.value.order = omega (arith, c.args.self.now.rising.ok.0) in
+    let rising : (with_items (with_items c.args.self.now.rising c.clear-2.new.labels) c.climb.new.labels).items ≡ c.climb.new.labels = with_items_is (with_items c.args.self.now.rising c.clear-2.new.labels) c.climb.new.labels (omega arith) in
+    let climbed : IsClimbed (length h.shape.value.order) h.up c.args.from c.climb.new.labels = subst (λ (n : ℕ). IsClimbed n c.args.hierarchy.now.up c.args.from c.climb.new.labels) n_rising c.climb.ensures in
+    let least_read : length c.deref_mut.result.now ≡ length h.shape.value.order = ap (λ (xs : List ℕ). length xs) c.deref_mut.ensures.value ∙ size_least in
+    let unknown : AreUnknown (length h.shape.value.order) c.forget.new.least = subst (λ (n : ℕ). AreUnknown n c.forget.new.least) least_read c.forget.ensures in
+    let size_unknown = unknown.size in
+    let least : (with_items c.args.self.now.least c.forget.new.least).items ≡ c.forget.new.least = with_items_is c.args.self.now.least c.forget.new.least (omega (arith, c.args.self.now.least.ok.0)) in
+    record {
+      from = c.requires.rank;
+      climbed = subst (λ (xs : List ℕ). IsClimbed (length c.args.hierarchy.now.shape.value.order) c.args.hierarchy.now.up c.args.from xs) (sym rising) climbed;
+      least = subst (λ (xs : List ℕ). AreLeast (length c.args.hierarchy.now.shape.value.order) c.args.hierarchy.now c.args.from xs c.clear.new.self.items) (sym least)
+          (subst (λ (xs : List ℕ). AreLeast (length c.args.hierarchy.now.shape.value.order) c.args.hierarchy.now c.args.from c.forget.new.least xs) (sym c.clear.ensures.items)
+          (AreLeast-none (length h.shape.value.order) h c.args.from c.forget.new.least unknown));
+    }
