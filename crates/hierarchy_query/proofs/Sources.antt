@@ -16,8 +16,8 @@ least_of_source g h source to x best l asking is least =
 
 pub dist_of_source : (g : Graph) (h : Hierarchy) (source to x best : ℕ) (l : LeastHills) → IsAsking g h source l → IsVertex g.vertices to → x ≡ slice_index h.shape.value.rank to → IsLeastHill (up_links (length h.shape.value.order) h) (down_links (length h.shape.value.order) h) l.from x best → best < no_link → IsDist g source to (Some best)
 dist_of_source g h source to x best l asking is_to is least real =
-    dist_of_least g h best source to asking.hierarchy asking.vertex is_to (least_of_source g h source to x best l asking is least) real
+    dist_of_least g h best source to asking.hierarchy asking.source is_to (least_of_source g h source to x best l asking is least) real
 
 pub none_of_source : (g : Graph) (h : Hierarchy) (source to x best : ℕ) (l : LeastHills) → IsAsking g h source l → IsVertex g.vertices to → x ≡ slice_index h.shape.value.rank to → IsLeastHill (up_links (length h.shape.value.order) h) (down_links (length h.shape.value.order) h) l.from x best → no_link ≤ best → IsDist g source to None
 none_of_source g h source to x best l asking is_to is least none =
-    none_of_least g h best source to asking.hierarchy asking.vertex is_to (least_of_source g h source to x best l asking is least) none
+    none_of_least g h best source to asking.hierarchy asking.source is_to (least_of_source g h source to x best l asking is least) none

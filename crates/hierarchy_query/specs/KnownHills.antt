@@ -6,7 +6,9 @@
 --   IsStacked first head least x from found   the list has from the place `from` on the way up from x, as far as
 --                        nothing is known: what stands in the run of the last one is known; where nothing is listed, x is
 --   IsLeastOver l x rise least best   the least of a rise and of what leads to x by one of its links
---   AreHills n h l       what is known are lengths of least hills, and so is what stands above it; each is listed
+--   AreLeast n h s least found   each known length is that of the least hill from s; what stands above a known
+--                        rank is known, and each known rank is listed
+--   AreHills n h l       it has the least rise from its rank to each other, and such least hills
 use Rattle.std.specs.Prelude.{◌≡◌, ◌<◌, ◌≤◌, ◌+◌, ◌⊎◌, ℕ, List, length, slice_index}
 use Rattle.hierarchy_build.specs.declared.links.Links.{Links}
 use Rattle.hierarchy_build.specs.declared.hierarchy.Hierarchy.{Hierarchy}

@@ -10,10 +10,10 @@ use Rattle.hierarchy_query.specs.KnownHills.{AreHills}
 
 pub record Source : Type 0 where
   pub graph : Graph
-  pub vertex : ℕ
+  pub source : ℕ
 
-pub record IsAsking (g : Graph) (h : Hierarchy) (source : ℕ) (l : LeastHills) : Type 0 where
+pub record IsAsking (g : Graph) (h : Hierarchy) (v : ℕ) (l : LeastHills) : Type 0 where
   pub hierarchy : IsHierarchy g h
-  pub vertex : IsVertex g.vertices source
-  pub from : l.from ≡ slice_index h.shape.value.rank source
+  pub source : IsVertex g.vertices v
+  pub from : l.from ≡ slice_index h.shape.value.rank v
   pub hills : AreHills (length h.shape.value.order) h l

@@ -30,7 +30,7 @@ impl<'a> Model for DistancesFrom<'a> {
 
     ghost Value = { Source };
 
-    ghost view = { λ d. record { graph = d.star.now; vertex = d.source } };
+    ghost view = { λ d. record { graph = d.star.now; source = d.source } };
 
     ghost invariant = { λ d. IsAsking d.star.now d.hierarchy.value d.source d.hills };
 }
@@ -45,7 +45,7 @@ impl<'a> DistancesFrom<'a> {
     ) -> Result<DistancesFrom<'a>, NoMemory>
         requires hierarchy { IsHierarchy star.now hierarchy.value }
         requires source { IsVertex star.now.vertices source }
-        ensures { IfOk result (λ d. d ≡ record { graph = star.now; vertex = source }) }
+        ensures { IfOk result (λ d. d ≡ record { graph = star.now; source = source }) }
     {
         let rank = hierarchy.shape.rank.as_slice()[source.number() as usize];
         let hills = LeastHills::of(alloc, &hierarchy, rank)?;
@@ -61,7 +61,7 @@ impl<'a> DistancesFrom<'a> {
     /// were worked out and of the links above both vertices.
     pub fn restart(&mut self, source: Vertex)
         requires { IsVertex self.old.graph.vertices source }
-        ensures { self.new ≡ record { graph = self.old.graph; vertex = source } }
+        ensures { self.new ≡ record { graph = self.old.graph; source = source } }
     {
         let hierarchy: &Hierarchy = &self.hierarchy;
         let rank = hierarchy.shape.rank.as_slice()[source.number() as usize];
@@ -74,7 +74,7 @@ impl<'a> DistancesFrom<'a> {
     /// the distances that are.
     pub fn distance(&mut self, to: Vertex) -> Result<Option<u64>, NoMemory>
         requires { IsVertex self.old.graph.vertices to }
-        ensures answer { IfOk result (λ d. IsDist self.old.graph self.old.vertex to d) }
+        ensures answer { IfOk result (λ d. IsDist self.old.graph self.old.source to d) }
         ensures same { self.new ≡ self.old }
     {
         let hierarchy: &Hierarchy = &self.hierarchy;

@@ -14,4 +14,6 @@ pub use oracle::HierarchyOracle;
 pub use tables::{DistanceList, one_to_many};
 
 #[cfg(test)]
+mod distance_tests;
+#[cfg(test)]
 mod tests;

@@ -16,7 +16,7 @@ loop-target-preserved c =
     (subst (λ (v : ℕ). IsDist c.loop-target.known.graph v c.target-item.result c.in_ok-distance.distance) c.loop-target.invariant.source c.in_ok-distance.ensures.answer) in
     record {
       graph = ap (λ (s : Source). s.graph) c.in_ok-distance.ensures.same ∙ c.loop-target.invariant.graph;
-      source = ap (λ (s : Source). s.vertex) c.in_ok-distance.ensures.same ∙ c.loop-target.invariant.source;
+      source = ap (λ (s : Source). s.source) c.in_ok-distance.ensures.same ∙ c.loop-target.invariant.source;
       dists = subst (λ (ds : List (Option ℕ)). DistsSoFar c.args.star.now c.args.from c.args.targets.now (c.loop-target.target-index + 1) ds) (sym c.in_ok-push.ensures.items)
           (DistsSoFar-more c.args.star.now c.args.from c.args.targets.now c.loop-target.target-index c.target-item.result c.loop-target.distances.items c.in_ok-distance.distance target c.loop-target.invariant.dists here);
     }
