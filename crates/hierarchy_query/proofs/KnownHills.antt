@@ -334,7 +334,7 @@ AreLeast-more n h s y place best rising least found can climbed at is ready over
     }
 
 -- the listed ranks from the place on are known, and so is what stands above the one before it
-pub record Settling (first head least : List ℕ) (x from : ℕ) (found : List ℕ) (place : ℕ) : Type 0 where
+pub record WorkingOut (first head least : List ℕ) (x from : ℕ) (found : List ℕ) (place : ℕ) : Type 0 where
   pub late : from ≤ place
   pub inside : place ≤ length found
   pub leads : (k : ℕ) → from ≤ k → k + 1 < length found → Leads first head (slice_index found k) (slice_index found (k + 1))
@@ -343,8 +343,8 @@ pub record Settling (first head least : List ℕ) (x from : ℕ) (found : List �
   pub some : from < length found → slice_index found from ≡ x
   pub done : place < length found → IsKnown least (slice_index found place)
 
-pub Settling-start : (first head least : List ℕ) (x from : ℕ) (found : List ℕ) (place : ℕ) → from ≤ length found → place ≡ length found → IsStacked first head least x from found → Settling first head least x from found place
-Settling-start first head least x from found place inside end h =
+pub WorkingOut-start : (first head least : List ℕ) (x from : ℕ) (found : List ℕ) (place : ℕ) → from ≤ length found → place ≡ length found → IsStacked first head least x from found → WorkingOut first head least x from found place
+WorkingOut-start first head least x from found place inside end h =
     record {
       late = omega arith;
       inside = omega arith;
@@ -355,12 +355,12 @@ Settling-start first head least x from found place inside end h =
       done = (λ lt. absurd (omega arith));
     }
 
-pub ready_before : (first head least : List ℕ) (x from : ℕ) (found : List ℕ) (place next y z : ℕ) → next + 1 ≡ place → from ≤ next → slice_index found next ≡ y → Settling first head least x from found place → IsUp first head y z → IsKnown least z
+pub ready_before : (first head least : List ℕ) (x from : ℕ) (found : List ℕ) (place next y z : ℕ) → next + 1 ≡ place → from ≤ next → slice_index found next ≡ y → WorkingOut first head least x from found place → IsUp first head y z → IsKnown least z
 ready_before first head least x from found place next y z before late is h up =
     h.ready next z late before (subst (λ (w : ℕ). IsUp first head w z) (sym is) up)
 
-pub Settling-more : (first head least : List ℕ) (x from : ℕ) (found : List ℕ) (place next y best : ℕ) → next + 1 ≡ place → from ≤ next → slice_index found next ≡ y → y < length least → best ≤ no_link → Settling first head least x from found place → Settling first head (set least y best) x from found next
-Settling-more first head least x from found place next y best before late is there real h =
+pub WorkingOut-more : (first head least : List ℕ) (x from : ℕ) (found : List ℕ) (place next y best : ℕ) → next + 1 ≡ place → from ≤ next → slice_index found next ≡ y → y < length least → best ≤ no_link → WorkingOut first head least x from found place → WorkingOut first head (set least y best) x from found next
+WorkingOut-more first head least x from found place next y best before late is there real h =
     let inside = h.inside in
     record {
       late = late;
@@ -381,8 +381,8 @@ Settling-more first head least x from found place next y best before late is the
       done = (λ lt. let read = written least y (slice_index found next) best there is in let r : slice_index (set least y best) (slice_index found next) ≤ no_link = omega arith in r);
     }
 
-pub IsKnown-settled : (first head least : List ℕ) (x from : ℕ) (found : List ℕ) (place : ℕ) → place ≤ from → Settling first head least x from found place → IsKnown least x
-IsKnown-settled first head least x from found place end h =
+pub IsKnown-worked_out : (first head least : List ℕ) (x from : ℕ) (found : List ℕ) (place : ℕ) → place ≤ from → WorkingOut first head least x from found place → IsKnown least x
+IsKnown-worked_out first head least x from found place end h =
     let late = h.late in
     let inside = h.inside in
     let same : place ≡ from = omega arith in

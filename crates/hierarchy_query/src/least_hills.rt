@@ -23,8 +23,9 @@ pub(crate) struct LeastHills {
     pub(crate) from: u32,
     // The least rise to each rank.
     rising: Vec<u64>,
-    // The least hill to each rank that is listed in `found`.
+    // The least hill to each rank, as far as it is known.
     least: Vec<u64>,
+    // The known ranks; after an `Err` others too, since the list isn't cut back.
     found: Vec<u32>,
 }
 
@@ -39,7 +40,7 @@ fn forget(found: &[u32], least: &mut [u64])
     }
 }
 
-// Lists a rank and those above it on the way up, to the last one that isn't known.
+// Lists a rank and those on the way up from it, as far as they aren't known.
 fn stack(
     first: &[u32],
     head: &[u32],
@@ -132,8 +133,9 @@ impl LeastHills {
         self.from = from;
     }
 
-    // Works out the listed ranks, the last one first.
-    fn settle(&mut self, hierarchy: &Hierarchy, from: usize, x: u32)
+    // Works out the ranks that are listed from a place on, the last one first: what stands above a rank is known by
+    // then.
+    fn work_out(&mut self, hierarchy: &Hierarchy, from: usize, x: u32)
         requires can { CanAsk (length hierarchy.now.shape.value.order) hierarchy.now }
         requires hills { AreHills (length hierarchy.now.shape.value.order) hierarchy.now self.old }
         requires inside { from ≤ length self.old.found.items }
@@ -170,7 +172,7 @@ impl LeastHills {
             x,
             &mut self.found,
         )?;
-        self.settle(hierarchy, listed, x);
+        self.work_out(hierarchy, listed, x);
         Ok(self.least[x as usize])
     }
 }

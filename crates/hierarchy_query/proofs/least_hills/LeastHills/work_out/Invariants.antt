@@ -1,12 +1,12 @@
 use Rattle.std.proofs.Common.{◌≡◌, ◌-◌, length}
 use Rattle.hierarchy_query.specs.KnownHills.{AreHills}
-use Rattle.hierarchy_query.proofs.KnownHills.{Settling}
-use Rattle.hierarchy_query.proofs.least_hills.LeastHills.settle.Given as goal
+use Rattle.hierarchy_query.proofs.KnownHills.{WorkingOut}
+use Rattle.hierarchy_query.proofs.least_hills.LeastHills.work_out.Given as goal
 
 abbrev pub invariant-back : goal.invariant-back
 invariant-back l = record {
   hills : AreHills (length l.hierarchy.shape.value.order) l.hierarchy l.self;
-  settling : Settling l.hierarchy.shape.value.first l.hierarchy.shape.value.head l.self.least.items l.x l.from l.self.found.items l.place;
+  working : WorkingOut l.hierarchy.shape.value.first l.hierarchy.shape.value.head l.self.least.items l.x l.from l.self.found.items l.place;
   same : l.self.from ≡ l.fn.self.from;
 }
 

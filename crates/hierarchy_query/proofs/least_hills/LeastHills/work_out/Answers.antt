@@ -3,8 +3,8 @@ use Rattle.std.proofs.lemmas.List.{get_or_read}
 use Rattle.hierarchy_query.specs.Climbs.{CanRelax}
 use Rattle.hierarchy_query.specs.KnownHills.{IsKnown, IsLeastOver}
 use Rattle.hierarchy_query.proofs.Climbs.{CanRelax-climb}
-use Rattle.hierarchy_query.proofs.KnownHills.{AreLeast-more, Settling-start, Settling-more, ready_before}
-use Rattle.hierarchy_query.proofs.least_hills.LeastHills.settle.Goals as goal
+use Rattle.hierarchy_query.proofs.KnownHills.{AreLeast-more, WorkingOut-start, WorkingOut-more, ready_before}
+use Rattle.hierarchy_query.proofs.least_hills.LeastHills.work_out.Goals as goal
 
 pub back-init : goal.back-init
 back-init c =
@@ -12,14 +12,14 @@ back-init c =
     let h = c.args.hierarchy.now.shape.value in
     record {
       hills = record { from = c.requires.hills.from; climbed = c.requires.hills.climbed; least = c.requires.hills.least };
-      settling = Settling-start h.first h.head c.args.self.now.least.items c.args.x c.args.from c.args.self.now.found.items c.len-place.result c.requires.inside (omega (arith, c.args.self.now.found.ok.0)) c.requires.stacked;
+      working = WorkingOut-start h.first h.head c.args.self.now.least.items c.args.x c.args.from c.args.self.now.found.items c.len-place.result c.requires.inside (omega (arith, c.args.self.now.found.ok.0)) c.requires.stacked;
       same = refl;
     }
 
 pub least_over-best-requires-clause-can : goal.least_over-best-requires-clause-can
 least_over-best-requires-clause-can c =
     let h = c.args.hierarchy.now in
-    let inside = c.back.invariant.settling.inside in
+    let inside = c.back.invariant.working.inside in
     let at : c.back.place - 1 < length c.back.self.found.items = omega (arith, c.back-test.true) in
     let y : c.index.result.now ≡ slice_index c.back.self.found.items (c.back.place - 1) = get_or_read c.back.self.found.items (c.back.place - 1) c.index.result.now at c.index.ensures 0 in
     let low = c.back.invariant.hills.least.ranks (c.back.place - 1) at in
@@ -31,18 +31,18 @@ least_over-best-requires-clause-can c =
 pub least_over-best-requires-clause-known : goal.least_over-best-requires-clause-known
 least_over-best-requires-clause-known c = λ k span.
     let h = c.args.hierarchy.now in
-    let inside = c.back.invariant.settling.inside in
+    let inside = c.back.invariant.working.inside in
     let at : c.back.place - 1 < length c.back.self.found.items = omega (arith, c.back-test.true) in
     let y : c.index.result.now ≡ slice_index c.back.self.found.items (c.back.place - 1) = get_or_read c.back.self.found.items (c.back.place - 1) c.index.result.now at c.index.ensures 0 in
     let low = c.back.invariant.hills.least.ranks (c.back.place - 1) at in
     let up = c.requires.can.down.links.under c.index.result.now k (omega arith) span in
     subst (λ (xs : List ℕ). IsKnown xs (slice_index h.down.head k)) (sym c.deref.ensures.value)
-    (ready_before h.shape.value.first h.shape.value.head c.back.self.least.items c.args.x c.args.from c.back.self.found.items c.back.place (c.back.place - 1) c.index.result.now (slice_index h.down.head k) (omega (arith, c.back-test.true)) (omega (arith, c.back-test.true)) (sym y) c.back.invariant.settling up)
+    (ready_before h.shape.value.first h.shape.value.head c.back.self.least.items c.args.x c.args.from c.back.self.found.items c.back.place (c.back.place - 1) c.index.result.now (slice_index h.down.head k) (omega (arith, c.back-test.true)) (omega (arith, c.back-test.true)) (sym y) c.back.invariant.working up)
 
 pub back-preserved : goal.back-preserved
 back-preserved c =
     let h = c.args.hierarchy.now in
-    let inside = c.back.invariant.settling.inside in
+    let inside = c.back.invariant.working.inside in
     let at : c.back.place - 1 < length c.back.self.found.items = omega (arith, c.back-test.true) in
     let y : c.index.result.now ≡ slice_index c.back.self.found.items (c.back.place - 1) = get_or_read c.back.self.found.items (c.back.place - 1) c.index.result.now at c.index.ensures 0 in
     let low = c.back.invariant.hills.least.ranks (c.back.place - 1) at in
@@ -61,8 +61,8 @@ back-preserved c =
         from = c.back.invariant.hills.from;
         climbed = c.back.invariant.hills.climbed;
         least = AreLeast-more (length h.shape.value.order) h c.back.self.from c.index.result.now (c.back.place - 1) c.least_over-best.result c.back.self.rising.items c.back.self.least.items c.back.self.found.items c.requires.can c.back.invariant.hills.climbed at (sym y)
-            (λ z up. ready_before h.shape.value.first h.shape.value.head c.back.self.least.items c.args.x c.args.from c.back.self.found.items c.back.place (c.back.place - 1) c.index.result.now z before late (sym y) c.back.invariant.settling up) over c.back.invariant.hills.least;
+            (λ z up. ready_before h.shape.value.first h.shape.value.head c.back.self.least.items c.args.x c.args.from c.back.self.found.items c.back.place (c.back.place - 1) c.index.result.now z before late (sym y) c.back.invariant.working up) over c.back.invariant.hills.least;
       };
-      settling = Settling-more h.shape.value.first h.shape.value.head c.back.self.least.items c.args.x c.args.from c.back.self.found.items c.back.place (c.back.place - 1) c.index.result.now c.least_over-best.result before late (sym y) (omega arith) (omega arith) c.back.invariant.settling;
+      working = WorkingOut-more h.shape.value.first h.shape.value.head c.back.self.least.items c.args.x c.args.from c.back.self.found.items c.back.place (c.back.place - 1) c.index.result.now c.least_over-best.result before late (sym y) (omega arith) (omega arith) c.back.invariant.working;
       same = c.back.invariant.same;
     }
