@@ -3,17 +3,18 @@ ghost use Rattle.road_model.specs.Graph.{IsVertex};
 ghost use Rattle.hierarchy_build.specs.Hierarchy.{IsHierarchy};
 ghost use Rattle.hierarchy_query.specs.Tables.{AreDists};
 
-use crate::oracle::HierarchyOracle;
+use crate::distances::DistancesFrom;
 use forward_star::Star;
 use hierarchy_build::Hierarchy;
-use road_model::{Items, NoMemory, Oracle, Vertex};
+use road_model::{Items, NoMemory, Vertex};
 use std::alloc::Global;
 use std::sync::Arc;
 
 /// Distances, in the order that the value's owner states; none where no walk leads.
 pub type DistanceList = Items<Option<u64>>;
 
-/// The distance from one vertex to each target, in its place. It takes the time of as many questions.
+/// The distance from one vertex to each target, in its place. It takes time linear in the vertices to lay the
+/// memory out, and then that of one climb and of the links of the ranks above the targets, each rank once.
 pub fn one_to_many(
     alloc: Global,
     star: &Star,
@@ -26,10 +27,10 @@ pub fn one_to_many(
     requires targets { All (IsVertex star.now.vertices) targets.now }
     ensures { IfOk result (λ ds. AreDists star.now from targets.now ds) }
 {
-    let mut oracle = HierarchyOracle::new(alloc, star, hierarchy)?;
+    let mut known = DistancesFrom::of(alloc, star, hierarchy, from)?;
     let mut distances = Vec::with_capacity(alloc, targets.len())?;
     for target in targets {
-        let distance = oracle.distance(from, *target)?;
+        let distance = known.distance(*target)?;
         distances.push(distance)?;
     }
     Ok(DistanceList::from_vec(distances))

@@ -61,7 +61,7 @@ const PATH: Arcs = &[(1, 2, 5), (2, 3, 4294967295), (3, 4, 2)];
 // All lengths are equal, and two ways from 1 to 4.
 const SQUARE: Arcs = &[(1, 2, 1), (1, 3, 1), (2, 4, 1), (3, 4, 1), (4, 1, 1)];
 
-fn star_of(alloc: Global) -> Result<Star, Fail> {
+pub(crate) fn star_of(alloc: Global) -> Result<Star, Fail> {
     Ok(Star::build(alloc, graph_of(alloc, 6, MIXED)?)?)
 }
 

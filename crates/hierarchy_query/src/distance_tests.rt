@@ -1,0 +1,117 @@
+ghost use Rattle.std.specs.Prelude.{◌≡◌, IfOk};
+
+use super::*;
+use crate::tests::star_of;
+use contraction_order::order_by;
+use forward_star::Star;
+use hierarchy_build::contract;
+use road_model::Vertex;
+use std::alloc::Global;
+use std::sync::Arc;
+use std::test::Fail;
+
+// The distances from vertex 1, where the vertices of these numbers are contracted first.
+fn distances_from_1<'a>(
+    alloc: Global,
+    star: &'a Star,
+    wishes: &[u32],
+) -> Result<DistancesFrom<'a>, Fail>
+    ensures { IfOk result (λ d. d.graph ≡ star.now) }
+{
+    let vertices = star.graph().vertices();
+    if vertices == 0 {
+        return Err("no vertex".into());
+    }
+    let order = order_by(alloc, vertices, wishes)?;
+    let hierarchy = Arc::new(alloc, contract(alloc, star, order)?)?;
+    let known = DistancesFrom::of(alloc, star, hierarchy, Vertex(1))?;
+    Ok(known)
+}
+
+// The distances from this vertex to others, one after another.
+fn asked_from(
+    alloc: Global,
+    star: &Star,
+    known: &mut DistancesFrom,
+    from: u32,
+    numbers: &[u32],
+) -> Result<DistanceList, Fail>
+    requires { known.old.graph ≡ star.now }
+    ensures { known.new.graph ≡ star.now }
+{
+    let vertices = star.graph().vertices();
+    if from == 0 || from > vertices {
+        return Err("no such source".into());
+    }
+    known.restart(Vertex(from));
+    let mut distances = DistanceList::new(alloc);
+    for number in numbers {
+        if *number == 0 || *number > vertices {
+            return Err("no such target".into());
+        }
+        distances.push(known.distance(Vertex(*number))?)?;
+    }
+    Ok(distances)
+}
+
+// A source, targets, and the distances.
+type Row = (u32, &'static [u32], &'static [Option<u64>]);
+
+const ROWS: &[Row] = &[
+    (
+        1,
+        &[6, 4, 5, 1, 6, 3],
+        &[Some(20), Some(17), None, Some(0), Some(20), Some(11)],
+    ),
+    // 1 and 5 aren't reached, though the source before reached them
+    (
+        2,
+        &[6, 1, 4, 2, 5],
+        &[Some(10), None, Some(7), Some(0), None],
+    ),
+    (
+        5,
+        &[4, 1, 6, 5],
+        &[
+            Some(4294967312),
+            Some(4294967295),
+            Some(4294967315),
+            Some(0),
+        ],
+    ),
+    (
+        6,
+        &[1, 2, 3, 4, 5, 6],
+        &[None, None, None, None, None, Some(0)],
+    ),
+];
+
+// The first row with another answer, where the vertices of these numbers are contracted first and one value is
+// asked from all sources.
+fn wrong_row(
+    alloc: Global,
+    star: &Star,
+    wishes: &[u32],
+    rows: &[Row],
+) -> Result<Option<usize>, Fail> {
+    let mut known = distances_from_1(alloc, star, wishes)?;
+    for (place, row) in rows.iter().enumerate() {
+        let (from, targets, wanted) = *row;
+        let distances = asked_from(alloc, star, &mut known, from, targets)?;
+        if distances.as_slice() != wanted {
+            return Ok(Some(place));
+        }
+    }
+    Ok(None)
+}
+
+#[test]
+fn tells_distances_from_one_source_after_another(rt: HostRuntime) -> Result<(), Fail> {
+    let star = star_of(rt.alloc())?;
+    let orders: [&[u32]; 2] = [&[], &[3, 1, 4]];
+    for wishes in orders {
+        let wrong = wrong_row(rt.alloc(), &star, wishes, ROWS)?;
+        assert_eq!(rt; wrong, None);
+    }
+    Ok(())
+}

@@ -1,0 +1,88 @@
+//! Distances from one source, each worked out when it is first asked for.
+
+ghost use Rattle.std.specs.Prelude.{◌≡◌, IfOk};
+ghost use Rattle.road_model.specs.Graph.{IsVertex};
+ghost use Rattle.road_model.specs.Dist.{IsDist};
+ghost use Rattle.hierarchy_build.specs.Hierarchy.{IsHierarchy};
+
+use crate::least_hills::LeastHills;
+use forward_star::Star;
+use hierarchy_build::{Hierarchy, NO_LINK};
+use road_model::{NoMemory, Vertex};
+use std::alloc::Global;
+use std::marker::Model;
+use std::sync::Arc;
+
+/// The distances of a graph from one source, by a hierarchy of it. Each is worked out when it is first asked for,
+/// and kept.
+///
+/// It keeps 16 bytes a vertex, and 4 bytes a rank whose distance is worked out.
+#[derive(Drop)]
+pub struct DistancesFrom<'a> {
+    star: &'a Star,
+    hierarchy: Arc<Hierarchy, Global>,
+    source: Vertex,
+    hills: LeastHills,
+}
+
+impl<'a> Model for DistancesFrom<'a> {
+    ghost use Rattle.hierarchy_query.specs.Sources.{Source, IsAsking};
+
+    ghost Value = { Source };
+
+    ghost view = { λ d. record { graph = d.star.now; source = d.source } };
+
+    ghost invariant = { λ d. IsAsking d.star.now d.hierarchy.value d.source d.hills };
+}
+
+impl<'a> DistancesFrom<'a> {
+    /// The distances from a vertex, none worked out yet. It takes time linear in the vertices.
+    pub fn of(
+        alloc: Global,
+        star: &'a Star,
+        hierarchy: Arc<Hierarchy, Global>,
+        source: Vertex,
+    ) -> Result<DistancesFrom<'a>, NoMemory>
+        requires hierarchy { IsHierarchy star.now hierarchy.value }
+        requires source { IsVertex star.now.vertices source }
+        ensures { IfOk result (λ d. d ≡ record { graph = star.now; source = source }) }
+    {
+        let rank = hierarchy.shape.rank.as_slice()[source.number() as usize];
+        let hills = LeastHills::of(alloc, &hierarchy, rank)?;
+        Ok(DistancesFrom {
+            star,
+            hierarchy,
+            source,
+            hills,
+        })
+    }
+
+    /// The distances from another vertex in place of these. It takes no memory, and the time of the distances that
+    /// were worked out and of the links above both vertices.
+    pub fn restart(&mut self, source: Vertex)
+        requires { IsVertex self.old.graph.vertices source }
+        ensures { self.new ≡ record { graph = self.old.graph; source = source } }
+    {
+        let hierarchy: &Hierarchy = &self.hierarchy;
+        let rank = hierarchy.shape.rank.as_slice()[source.number() as usize];
+        self.hills.restart(hierarchy, rank);
+        self.source = source;
+    }
+
+    /// The distance of a vertex from the source; none where no walk leads to it. It takes the time of the links of
+    /// those ranks above it whose distances aren't worked out yet, constant time where its own is. An `Err` leaves
+    /// the distances that are.
+    pub fn distance(&mut self, to: Vertex) -> Result<Option<u64>, NoMemory>
+        requires { IsVertex self.old.graph.vertices to }
+        ensures answer { IfOk result (λ d. IsDist self.old.graph self.old.source to d) }
+        ensures same { self.new ≡ self.old }
+    {
+        let hierarchy: &Hierarchy = &self.hierarchy;
+        let rank = hierarchy.shape.rank.as_slice()[to.number() as usize];
+        let least = self.hills.length(hierarchy, rank)?;
+        if least >= NO_LINK {
+            return Ok(None);
+        }
+        Ok(Some(least))
+    }
+}
