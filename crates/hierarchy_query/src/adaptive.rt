@@ -58,21 +58,23 @@ fn climbing<'a>(alloc: Global, star: &'a Star) -> Result<Engine<'a>, NoMemory>
 /// An oracle that answers by plain searches until a hierarchy pays off, and then by the hierarchy.
 ///
 /// It builds one once, before the first question after the searches have settled more than 16 vertices for
-/// each vertex of the graph: by then they have taken time of the order of building it. A few questions, or
-/// questions between near vertices, never come so far. Where the hierarchy can't be built, since memory ran
-/// out or it would have too many links, the plain searches answer for good.
+/// each vertex of the graph: by then they have taken a good part of the time that building takes. A few
+/// questions never come so far. Where the hierarchy can't be built, since memory ran out or it would have too
+/// many links, the plain searches answer for good.
 ///
 /// Before it keeps 8 bytes a vertex and what the largest search so far needed, and a question costs what its
-/// search visits. Afterwards it keeps 28 bytes a vertex and 20 bytes a link of the hierarchy, and a question
-/// costs the links above its two vertices. The question between them takes the time of building the
-/// hierarchy, and for that time the memory of both.
+/// search visits. Afterwards it keeps the hierarchy and 16 bytes a vertex, and a question costs the links above
+/// its two vertices. The question between them takes the time of building the hierarchy, and until that is over
+/// the memory of both.
 #[derive(Drop)]
 pub struct AdaptiveOracle<'a> {
     alloc: Global,
     star: &'a Star,
     engine: Engine<'a>,
+    // no hierarchy was tried yet
     hopeful: bool,
     asked: u64,
+    // what the plain searches settled before the change
     settled_before: u64,
 }
 
