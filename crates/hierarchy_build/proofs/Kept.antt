@@ -6,7 +6,7 @@ use Rattle.std.proofs.lemmas.List.{get_or_append_left, get_or_past}
 use Rattle.hierarchy_build.specs.declared.links.Links.{Links}
 use Rattle.hierarchy_build.specs.Runs.{InSpan}
 use Rattle.hierarchy_build.specs.Lengths.{no_link, LinkAt}
-use Rattle.hierarchy_build.specs.Links.{Stands, IsAdded, KeptSoFar, AreKept}
+use Rattle.hierarchy_build.specs.Links.{Stands, Stays, LeftAt, IsAdded, KeptSoFar, AreKept}
 
 at_old : (xs : List ℕ) (x k : ℕ) → k < length xs → slice_index (xs ++ x ∷ []) k ≡ slice_index xs k
 at_old xs x k inside = get_or_append_left xs (x ∷ []) 0 k inside
@@ -17,9 +17,10 @@ at_end xs x k is = ap (λ (i : ℕ). slice_index (xs ++ x ∷ []) i) is ∙ get_
 one_more : (xs : List ℕ) (x : ℕ) → length (xs ++ x ∷ []) ≡ length xs + 1
 one_more xs x = omega (arith, length-append xs (x ∷ []))
 
-Stands-wider : (head lengths : List ℕ) (from to to' b x : ℕ) → to ≤ to' → Stands head lengths from to b x → Stands head lengths from to' b x
-Stands-wider head lengths from to to' b x le h =
-    record { place = h.place; late = h.late; early = (let low = h.early in omega arith); leads = h.leads; long = h.long }
+Stays-wider : (head full thinned : List ℕ) (from to to' b x : ℕ) → to ≤ to' → Stays head full thinned from to b x → Stays head full thinned from to' b x
+Stays-wider head full thinned from to to' b x le h =
+    let s = h.stands in
+    record { stands = record { place = s.place; late = s.late; early = (let low = s.early in omega arith); leads = s.leads; long = s.long }; least = h.least }
 
 pub IsAdded-none : (head full thinned : List ℕ) (from : ℕ) (l : Links) → length l.length ≡ length l.head → ((k : ℕ) → slice_index l.length k < no_link) → IsAdded head full thinned from from l l
 IsAdded-none head full thinned from l even short =
@@ -46,7 +47,7 @@ IsAdded-skipped head full thinned from k old new out h =
       heads = h.heads;
       lengths = h.lengths;
       short = h.short;
-      only = (λ i late early. Stands-wider head full from k (k + 1) (slice_index new.head i) (slice_index new.length i) (omega arith) (h.only i late early));
+      only = (λ i late early. Stays-wider head full thinned from k (k + 1) (slice_index new.head i) (slice_index new.length i) (omega arith) (h.only i late early));
       all = (λ i late early real same.
           ⊎_elim
           (λ (before : i < k). h.all i late before real same)
@@ -57,8 +58,8 @@ IsAdded-skipped head full thinned from k old new out h =
     }
 
 -- or is added
-pub IsAdded-more : (head full thinned : List ℕ) (from k : ℕ) (old new next : Links) → from ≤ k → slice_index full k < no_link → next.first ≡ new.first → next.head ≡ new.head ++ slice_index head k ∷ [] → next.length ≡ new.length ++ slice_index full k ∷ [] → IsAdded head full thinned from k old new → IsAdded head full thinned from (k + 1) old next
-IsAdded-more head full thinned from k old new next start real is_first is_head is_length h =
+pub IsAdded-more : (head full thinned : List ℕ) (from k : ℕ) (old new next : Links) → from ≤ k → slice_index full k < no_link → slice_index thinned k ≡ slice_index full k → next.first ≡ new.first → next.head ≡ new.head ++ slice_index head k ∷ [] → next.length ≡ new.length ++ slice_index full k ∷ [] → IsAdded head full thinned from k old new → IsAdded head full thinned from (k + 1) old next
+IsAdded-more head full thinned from k old new next start real least is_first is_head is_length h =
     let even = h.even in
     let more = h.more in
     let few = h.few in
@@ -87,10 +88,15 @@ IsAdded-more head full thinned from k old new next start real is_first is_head i
       only = (λ i late early.
           ⊎_elim
           (λ (was : i < length new.head).
-          let s = h.only i late was in
-          let r : Stands head full from (k + 1) (slice_index next.head i) (slice_index next.length i) = record { place = s.place; late = s.late; early = (let low = s.early in omega arith); leads = s.leads ∙ sym (head_at i was); long = s.long ∙ sym (length_at i (omega arith)) } in r)
+          let t = h.only i late was in
+          let s = t.stands in
+          let long : slice_index new.length i ≡ slice_index next.length i = sym (length_at i (omega arith)) in
+          let stands : Stands head full from (k + 1) (slice_index next.head i) (slice_index next.length i) = record { place = s.place; late = s.late; early = (let low = s.early in omega arith); leads = s.leads ∙ sym (head_at i was); long = s.long ∙ long } in
+          let r : Stays head full thinned from (k + 1) (slice_index next.head i) (slice_index next.length i) = record { stands = stands; least = t.least ∙ long } in r)
           (λ (here : length new.head ≤ i).
-          let r : Stands head full from (k + 1) (slice_index next.head i) (slice_index next.length i) = record { place = k; late = start; early = omega arith; leads = sym (head_end i (omega arith)); long = sym (length_end i (omega arith)) } in r)
+          let long : slice_index full k ≡ slice_index next.length i = sym (length_end i (omega arith)) in
+          let stands : Stands head full from (k + 1) (slice_index next.head i) (slice_index next.length i) = record { place = k; late = start; early = omega arith; leads = sym (head_end i (omega arith)); long = long } in
+          let r : Stays head full thinned from (k + 1) (slice_index next.head i) (slice_index next.length i) = record { stands = stands; least = least ∙ long } in r)
           (cases_lt i (length new.head)));
       all = (λ i late early real' same.
           ⊎_elim
@@ -172,18 +178,20 @@ KeptSoFar-more n v first head full thinned old new next is_v h a is_first is_hea
           let at : InSpan old.first u k = record { low = omega arith; high = omega arith } in
           let i = inside u k was at in
           let link = h.only u k was at in
-          let r : LinkAt n first head full u (slice_index next.head k) (slice_index next.length k) =
-          subst (λ (x : ℕ). LinkAt n first head full u (slice_index next.head k) x) (sym (length_same k ∙ a.lengths k i))
-          (subst (λ (b : ℕ). LinkAt n first head full u b (slice_index old.length k)) (sym (head_same k ∙ a.heads k i)) link) in r)
+          let r : LeftAt n first head full thinned u (slice_index next.head k) (slice_index next.length k) =
+          subst (λ (x : ℕ). LeftAt n first head full thinned u (slice_index next.head k) x) (sym (length_same k ∙ a.lengths k i))
+          (subst (λ (b : ℕ). LeftAt n first head full thinned u b (slice_index old.length k)) (sym (head_same k ∙ a.heads k i)) link) in r)
           (λ (top : v ≤ u).
           let same : v ≡ u = omega arith in
           let from : slice_index next.first v ≡ slice_index next.first u = ap (λ (x : ℕ). slice_index next.first x) same in
           let to : slice_index next.first (v + 1) ≡ slice_index next.first (u + 1) = ap (λ (x : ℕ). slice_index next.first (x + 1)) same in
           let e = first_at v (omega arith) in
-          let s = a.only k (omega arith) (omega arith) in
+          let t = a.only k (omega arith) (omega arith) in
+          let s = t.stands in
           let short = a.short k in
           let link : LinkAt n first head full v (slice_index next.head k) (slice_index next.length k) = record { place = s.place; inside = is_v; span = record { low = s.late; high = s.early }; leads = s.leads ∙ sym (head_same k); long = s.long ∙ sym (length_same k); real = (let f = length_same k in omega arith) } in
-          subst (λ (x : ℕ). LinkAt n first head full x (slice_index next.head k) (slice_index next.length k)) same link)
+          let left : LeftAt n first head full thinned v (slice_index next.head k) (slice_index next.length k) = record { link = link; least = t.least ∙ sym (length_same k) } in
+          subst (λ (x : ℕ). LeftAt n first head full thinned x (slice_index next.head k) (slice_index next.length k)) same left)
           (cases_lt u v));
       all = (λ u k low span real same.
           ⊎_elim
@@ -227,11 +235,11 @@ AreKept-all n v first head full thinned l is_n so_far =
         end = h.end;
         even = h.even;
         rising = h.rising;
-        under = (λ v k is_v span. let link = h.only v k is_v span in record { place = link.place; span = link.span; is = link.leads });
+        under = (λ v k is_v span. let link = (h.only v k is_v span).link in record { place = link.place; span = link.span; is = link.leads });
         short = h.short;
       };
       only = (λ a b x link.
-          subst (λ (y : ℕ). LinkAt n first head full a b y) link.long
-          (subst (λ (z : ℕ). LinkAt n first head full a z (slice_index l.length link.place)) link.leads (h.only a link.place link.inside link.span)));
+          subst (λ (y : ℕ). LeftAt n first head full thinned a b y) link.long
+          (subst (λ (z : ℕ). LeftAt n first head full thinned a z (slice_index l.length link.place)) link.leads (h.only a link.place link.inside link.span)));
       all = h.all;
     }

@@ -7,5 +7,6 @@ pub mod Ranks
 pub mod Pulls
 pub mod Kept
 pub mod Thinning
+pub mod Least
 pub mod Whole
 pub mod Versions

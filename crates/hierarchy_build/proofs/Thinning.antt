@@ -111,8 +111,8 @@ IsSound-thinned g name U D U' D' sound thins =
 pub Thins-kept : (g : Graph) (order : List ℕ) (n : ℕ) (first head up down best_up best_down : List ℕ) (rising falling : Links) → Falls 0 up best_up → Falls 0 down best_down → AreWalks g order n first head best_up best_down → AreKept n first head up best_up rising → AreKept n first head down best_down falling → Thins g (slice_index order) (LinkAt n first head up) (LinkAt n first head down) (links_of n rising) (links_of n falling)
 Thins-kept g order n first head up down best_up best_down rising falling rise fall walks kept_up kept_down =
     record {
-      up_only = kept_up.only;
-      down_only = kept_down.only;
+      up_only = (λ a b x link. (kept_up.only a b x link).link);
+      down_only = (λ a b x link. (kept_down.only a b x link).link);
       up = (λ a b x link.
           let k : ℕ = link.place in
           let long = link.long in

@@ -12,7 +12,7 @@ use Rattle.hierarchy_build.specs.declared.shape.Shape.{Shape}
 use Rattle.hierarchy_build.specs.declared.hierarchy.Hierarchy.{Hierarchy}
 use Rattle.hierarchy_build.specs.Hills.{Within, HasTriangles, IsSound, Covers}
 use Rattle.hierarchy_build.specs.Runs.{InSpan, IsUp, IsShape, IsAcross, IsRanked}
-use Rattle.hierarchy_build.specs.Lengths.{no_link, LinkAt, CanPush, AreWalks, IsWithin, AreSpelled, IsCovered, KeepsArcs, IsTight, AreTight, Keeps}
+use Rattle.hierarchy_build.specs.Lengths.{no_link, LinkAt, CanPush, AreWalks, IsWithin, AreSpelled, IsCovered, KeepsArcs, IsTight, AreTight, Keeps, AreBeaten}
 use Rattle.hierarchy_build.specs.Links.{links_of, AreKept}
 use Rattle.hierarchy_build.specs.Waits.{Waits, IsDue, ShapeSoFar}
 use Rattle.hierarchy_build.specs.Hierarchy.{IsShapeOf, HasLengths, IsHierarchy}
@@ -20,6 +20,7 @@ use Rattle.hierarchy_build.proofs.Hills.{hills_of_walks, hills_have_dists}
 use Rattle.hierarchy_build.proofs.Runs.{place_inside, head_inside, places_rise}
 use Rattle.hierarchy_build.proofs.Waits.{IsShape-all, IsPlaced-all}
 use Rattle.hierarchy_build.proofs.Arcs.{CanPush-arcs}
+use Rattle.hierarchy_build.proofs.Least.{AreShortest-left}
 use Rattle.hierarchy_build.proofs.Thinning.{Thins-kept, HasHills-thinned, IsSound-thinned}
 
 link_rises : (n : ℕ) (first head lengths : List ℕ) → IsShape n first head → (a b x : ℕ) → LinkAt n first head lengths a b x → a < b
@@ -206,8 +207,8 @@ CanPush-read g s n first head u d is_n is_first is_head is_u is_d shape =
     (subst (λ (x : List ℕ). CanPush g.vertices s.first s.head (replicate (length s.head) no_link) x) (sym is_d) (CanPush-fresh g.vertices s.first s.head shape.shape)))))
 
 -- the links that are kept of these
-pub IsHierarchy-kept : (g : Graph) (h : Hierarchy) (up down best_up best_down : List ℕ) → IsShapeOf g h.shape.value → HasLengths g h.shape.value up down → Keeps g.vertices h.shape.value.first h.shape.value.head 0 up down best_up best_down → AreKept g.vertices h.shape.value.first h.shape.value.head up best_up h.up → AreKept g.vertices h.shape.value.first h.shape.value.head down best_down h.down → IsHierarchy g h
-IsHierarchy-kept g h up down best_up best_down is lengths best kept_up kept_down =
+pub IsHierarchy-kept : (g : Graph) (h : Hierarchy) (up down best_up best_down : List ℕ) → IsShapeOf g h.shape.value → HasLengths g h.shape.value up down → Keeps g.vertices h.shape.value.first h.shape.value.head 0 up down best_up best_down → AreBeaten g.vertices h.shape.value.first h.shape.value.head 0 up down best_up best_down → AreKept g.vertices h.shape.value.first h.shape.value.head up best_up h.up → AreKept g.vertices h.shape.value.first h.shape.value.head down best_down h.down → IsHierarchy g h
+IsHierarchy-kept g h up down best_up best_down is lengths best beaten kept_up kept_down =
     let s : Shape = h.shape.value in
     let name : ℕ → ℕ = slice_index h.shape.value.order in
     let rank : ℕ → ℕ = slice_index h.shape.value.rank in
@@ -215,24 +216,27 @@ IsHierarchy-kept g h up down best_up best_down is lengths best kept_up kept_down
     let D : ℕ → ℕ → ℕ → Type 0 = LinkAt g.vertices h.shape.value.first h.shape.value.head down in
     let full : IsSound g (slice_index h.shape.value.order) (LinkAt g.vertices h.shape.value.first h.shape.value.head up) (LinkAt g.vertices h.shape.value.first h.shape.value.head down) = sound g s.order g.vertices s.first s.head up down lengths.walks in
     let thins = Thins-kept g s.order g.vertices s.first s.head up down best_up best_down h.up h.down best.rise best.fall (best.walks g s.order lengths.walks) kept_up kept_down in
+    let kept : IsSound g (slice_index h.shape.value.order) (links_of g.vertices h.up) (links_of g.vertices h.down) = IsSound-thinned g name U D (links_of g.vertices h.up) (links_of g.vertices h.down) full thins in
     record {
       shape = is;
       up = kept_up.links;
       down = kept_down.links;
+      shortest = AreShortest-left g name rank g.vertices s.first s.head up down best_up best_down (links_of g.vertices h.up) (links_of g.vertices h.down) is.ranked.back is.shape best.rise best.fall beaten lengths.hills kept kept_up.only kept_down.only;
       dists =
           hills_have_dists no_link g name rank (links_of g.vertices h.up) (links_of g.vertices h.down) is.ranked.back
           (HasHills-thinned no_link g name rank U D (links_of g.vertices h.up) (links_of g.vertices h.down) is.ranked.back lengths.hills full thins)
-          (IsSound-thinned g name U D (links_of g.vertices h.up) (links_of g.vertices h.down) full thins)
-          lengths.below;
+          kept lengths.below;
     }
 
 -- by what the code read
-pub IsHierarchy-read : (g : Graph) (h : Hierarchy) (a b c d : Shape) (up down best_up best_down : List ℕ) → a ≡ h.shape.value → b ≡ h.shape.value → c ≡ h.shape.value → d ≡ h.shape.value → IsShapeOf g h.shape.value → HasLengths g a up down → Keeps (length b.order) b.first b.head 0 up down best_up best_down → AreKept (length c.order) c.first c.head up best_up h.up → AreKept (length d.order) d.first d.head down best_down h.down → IsHierarchy g h
-IsHierarchy-read g h a b c d up down best_up best_down is_a is_b is_c is_d is lengths best kept_up kept_down =
+pub IsHierarchy-read : (g : Graph) (h : Hierarchy) (a b c d : Shape) (up down best_up best_down : List ℕ) → a ≡ h.shape.value → b ≡ h.shape.value → c ≡ h.shape.value → d ≡ h.shape.value → IsShapeOf g h.shape.value → HasLengths g a up down → Keeps (length b.order) b.first b.head 0 up down best_up best_down → AreBeaten (length b.order) b.first b.head 0 up down best_up best_down → AreKept (length c.order) c.first c.head up best_up h.up → AreKept (length d.order) d.first d.head down best_down h.down → IsHierarchy g h
+IsHierarchy-read g h a b c d up down best_up best_down is_a is_b is_c is_d is lengths best beaten kept_up kept_down =
     IsHierarchy-kept g h up down best_up best_down is
     (subst (λ (s : Shape). HasLengths g s up down) is_a lengths)
     (subst (λ (n : ℕ). Keeps n h.shape.value.first h.shape.value.head 0 up down best_up best_down) is.ranked.order_size
     (subst (λ (s : Shape). Keeps (length s.order) s.first s.head 0 up down best_up best_down) is_b best))
+    (subst (λ (n : ℕ). AreBeaten n h.shape.value.first h.shape.value.head 0 up down best_up best_down) is.ranked.order_size
+    (subst (λ (s : Shape). AreBeaten (length s.order) s.first s.head 0 up down best_up best_down) is_b beaten))
     (subst (λ (n : ℕ). AreKept n h.shape.value.first h.shape.value.head up best_up h.up) is.ranked.order_size
     (subst (λ (s : Shape). AreKept (length s.order) s.first s.head up best_up h.up) is_c kept_up))
     (subst (λ (n : ℕ). AreKept n h.shape.value.first h.shape.value.head down best_down h.down) is.ranked.order_size

@@ -4,15 +4,15 @@
 --   HasSameEnds g h    two graphs that differ in the lengths of their arcs alone
 --   HasLengths g s up down   a length for each link of a shape: that of some walk of g, and such that each walk of g
 --                      has a hill that isn't longer; where a walk leads, one is shorter than no_link
---   IsHierarchy g h    its shape is one of g, its links stand in the runs of the shape, and the distances of g are those
---                      over its hills
+--   IsHierarchy g h    its shape is one of g, its links stand in the runs of the shape, each as long as the distance between
+--                      its ends, and the distances of g are those over its hills
 use Rattle.std.specs.Prelude.{◌≡◌, ℕ, List, length, slice_index, slice_index_or, All}
 use Rattle.road_model.specs.declared.rows.ArcRow.{ArcRow}
 use Rattle.road_model.specs.Graph.{Graph, rows_of}
 use Rattle.road_model.specs.Dist.{DistsBelow}
 use Rattle.hierarchy_build.specs.declared.shape.Shape.{Shape}
 use Rattle.hierarchy_build.specs.declared.hierarchy.Hierarchy.{Hierarchy}
-use Rattle.hierarchy_build.specs.Hills.{HasHills, HasHillDists}
+use Rattle.hierarchy_build.specs.Hills.{AreShortest, HasHills, HasHillDists}
 use Rattle.hierarchy_build.specs.Runs.{IsShape, IsRanked, IsPlaced}
 use Rattle.hierarchy_build.specs.Lengths.{no_link, LinkAt, AreLengths, AreWalks}
 use Rattle.hierarchy_build.specs.Links.{links_of, AreLinks}
@@ -38,4 +38,5 @@ pub record IsHierarchy (g : Graph) (h : Hierarchy) : Type 0 where
   pub shape : IsShapeOf g h.shape.value
   pub up : AreLinks g.vertices h.shape.value.first h.shape.value.head h.up
   pub down : AreLinks g.vertices h.shape.value.first h.shape.value.head h.down
+  pub shortest : AreShortest g (slice_index h.shape.value.rank) (links_of g.vertices h.up) (links_of g.vertices h.down)
   pub dists : HasHillDists no_link g (slice_index h.shape.value.rank) (links_of g.vertices h.up) (links_of g.vertices h.down)

@@ -16,6 +16,7 @@
 --                          both, where that is below the cap
 --   IsSound g name U D     each link has the length of some walk of g, where name a is the vertex of rank a
 --   Covers g rank U D      each arc of g that is no loop has a link that isn't longer
+--   AreShortest g rank U D  each link between vertices of g is as long as their distance
 --   HasHills cap g rank U D  each walk of g below the cap has a hill that isn't longer
 --   HasHillDists cap g rank U D  the distances of g are those over hills
 use Rattle.std.specs.Prelude.{◌≡◌, ◌≢◌, ◌<◌, ◌≤◌, ◌+◌, ◌⊎◌, ◌↔◌, ℕ, List, [], ◌∷◌, Option, Some, None}
@@ -81,6 +82,10 @@ abbrev pub Covers : Graph → (ℕ → ℕ) → (ℕ → ℕ → ℕ → Type 0)
 Covers g rank U D =
     (k : ℕ) (r : ArcRow) → arc_at g k ≡ Some r → r.tail ≢ r.head
     → Within U (rank r.tail) (rank r.head) r.length ⊎ Within D (rank r.head) (rank r.tail) r.length
+
+pub record AreShortest (g : Graph) (rank : ℕ → ℕ) (U D : ℕ → ℕ → ℕ → Type 0) : Type 0 where
+  pub up : (u v x : ℕ) → IsVertex g.vertices u → IsVertex g.vertices v → U (rank u) (rank v) x → IsDist g u v (Some x)
+  pub down : (u v x : ℕ) → IsVertex g.vertices u → IsVertex g.vertices v → D (rank u) (rank v) x → IsDist g v u (Some x)
 
 abbrev pub HasHills : ℕ → Graph → (ℕ → ℕ) → (ℕ → ℕ → ℕ → Type 0) → (ℕ → ℕ → ℕ → Type 0) → Type 0
 HasHills cap g rank U D =

@@ -9,6 +9,10 @@
 --   IsTight up down i j k  the link at k is no longer, either way, than that at i and that at j together
 --   AreTight n first head up down v  this holds for each two places of the run of a rank below v
 --   RunIsTight first head up down v i  this holds for the place i of the run of v and each place after it there
+--   Pulls n first head v up down up' down'   both ways so, and nothing changes but in the run of v
+--   IsBeaten up down up' down' i j x   after it: the links at i and j are no longer, either way, than that at the other and
+--                          the one at x, which joins their ranks, together
+--   AreBeaten n first head v up down up' down'   this holds for each two places of the run of a rank from v on
 --   AreSpelled order rank r   the ranks of an arc's ends lead back to them
 --   IsWithin n rank r      an arc whose ends have ranks below n, and whose length is that of a link
 --   IsCovered n first head rank up down r   an arc whose ends differ in rank has a link that isn't longer
@@ -69,6 +73,26 @@ AreTight n first head up down v =
 abbrev pub RunIsTight : List ℕ → List ℕ → List ℕ → List ℕ → ℕ → ℕ → Type 0
 RunIsTight first head up down v i =
     (j k : ℕ) → InSpan first v j → i < j → IsAcross first head i j k → IsTight up down i j k
+
+pub record Pulls (n : ℕ) (first head : List ℕ) (v : ℕ) (up down up' down' : List ℕ) : Type 0 where
+  pub keeps : Keeps n first head (slice_index first v) up down up' down'
+  pub rise_after : (k : ℕ) → slice_index first (v + 1) ≤ k → slice_index up' k ≡ slice_index up k
+  pub fall_after : (k : ℕ) → slice_index first (v + 1) ≤ k → slice_index down' k ≡ slice_index down k
+
+pub record IsBeaten (up down up' down' : List ℕ) (i j x : ℕ) : Type 0 where
+  pub far_rise : slice_index up' j ≤ slice_index up i + slice_index up' x
+  pub far_fall : slice_index down' j ≤ slice_index down' x + slice_index down i
+  pub near_rise : slice_index up' i ≤ slice_index up j + slice_index down' x
+  pub near_fall : slice_index down' i ≤ slice_index up' x + slice_index down j
+
+abbrev pub AreBeaten : ℕ → List ℕ → List ℕ → ℕ → List ℕ → List ℕ → List ℕ → List ℕ → Type 0
+AreBeaten n first head v up down up' down' =
+    (c i j x : ℕ) → v ≤ c → c < n → InSpan first c i → InSpan first c j → i < j → IsAcross first head i j x → IsBeaten up down up' down' i j x
+
+-- one rank's, and those from one place of it on
+abbrev pub RunIsBeaten : List ℕ → List ℕ → ℕ → ℕ → List ℕ → List ℕ → List ℕ → List ℕ → Type 0
+RunIsBeaten first head v i up down up' down' =
+    (j x : ℕ) → InSpan first v j → i < j → IsAcross first head i j x → IsBeaten up down up' down' i j x
 
 pub record AreSpelled (order rank : List ℕ) (r : ArcRow) : Type 0 where
   pub tail : slice_index order (slice_index rank r.tail) ≡ r.tail

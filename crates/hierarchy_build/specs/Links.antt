@@ -3,11 +3,11 @@
 --   AreLinks n first head l  n runs one after another; each link leads to a rank that stands in the shape's run of its own,
 --                          and is one by its length
 --   Stands head lengths from to b x   a link to b of the length x stands at a place from `from` to `to`
---   IsAdded head full thinned from to old new   the links at these places that are as long as their thinned length
---                          follow the old ones
+--   Stays head full thinned from to b x   and its thinned length is the same
+--   LeftAt n first head full thinned a b x   a link of these lengths whose thinned length is the same
+--   IsAdded head full thinned from to old new   the links at these places that are as long as their thinned length follow the old ones
 --   KeptSoFar n v first head full thinned l    so it is for the runs below v
---   AreKept n first head full thinned l    l has links of the full lengths alone, and each that is as long as its thinned
---                          length
+--   AreKept n first head full thinned l    l has those links of the full lengths that are as long as their thinned length
 use Rattle.std.specs.Prelude.{◌≡◌, ◌<◌, ◌≤◌, ◌+◌, ℕ, List, length, slice_index}
 use Rattle.hierarchy_build.specs.declared.links.Links.{Links}
 use Rattle.hierarchy_build.specs.Runs.{InSpan, IsUp}
@@ -31,6 +31,14 @@ pub record Stands (head lengths : List ℕ) (from to b x : ℕ) : Type 0 where
   pub leads : slice_index head place ≡ b
   pub long : slice_index lengths place ≡ x
 
+pub record Stays (head full thinned : List ℕ) (from to b x : ℕ) : Type 0 where
+  pub stands : Stands head full from to b x
+  pub least : slice_index thinned stands.place ≡ x
+
+pub record LeftAt (n : ℕ) (first head full thinned : List ℕ) (a b x : ℕ) : Type 0 where
+  pub link : LinkAt n first head full a b x
+  pub least : slice_index thinned link.place ≡ x
+
 pub record IsAdded (head full thinned : List ℕ) (from to : ℕ) (old new : Links) : Type 0 where
   pub first : new.first ≡ old.first
   pub even : length new.length ≡ length new.head
@@ -39,7 +47,7 @@ pub record IsAdded (head full thinned : List ℕ) (from to : ℕ) (old new : Lin
   pub heads : (k : ℕ) → k < length old.head → slice_index new.head k ≡ slice_index old.head k
   pub lengths : (k : ℕ) → k < length old.head → slice_index new.length k ≡ slice_index old.length k
   pub short : (k : ℕ) → slice_index new.length k < no_link
-  pub only : (k : ℕ) → length old.head ≤ k → k < length new.head → Stands head full from to (slice_index new.head k) (slice_index new.length k)
+  pub only : (k : ℕ) → length old.head ≤ k → k < length new.head → Stays head full thinned from to (slice_index new.head k) (slice_index new.length k)
   pub all : (k : ℕ) → from ≤ k → k < to → slice_index full k < no_link → slice_index thinned k ≡ slice_index full k
       → Stands new.head new.length (length old.head) (length new.head) (slice_index head k) (slice_index full k)
 
@@ -50,12 +58,12 @@ pub record KeptSoFar (n v : ℕ) (first head full thinned : List ℕ) (l : Links
   pub few : length l.head ≤ slice_index first v
   pub rising : (u w : ℕ) → u ≤ w → w ≤ v → slice_index l.first u ≤ slice_index l.first w
   pub short : (k : ℕ) → slice_index l.length k < no_link
-  pub only : (u k : ℕ) → u < v → InSpan l.first u k → LinkAt n first head full u (slice_index l.head k) (slice_index l.length k)
+  pub only : (u k : ℕ) → u < v → InSpan l.first u k → LeftAt n first head full thinned u (slice_index l.head k) (slice_index l.length k)
   pub all : (u k : ℕ) → u < v → InSpan first u k → slice_index full k < no_link → slice_index thinned k ≡ slice_index full k
       → LinkAt n l.first l.head l.length u (slice_index head k) (slice_index full k)
 
 pub record AreKept (n : ℕ) (first head full thinned : List ℕ) (l : Links) : Type 0 where
   pub links : AreLinks n first head l
-  pub only : (a b x : ℕ) → links_of n l a b x → LinkAt n first head full a b x
+  pub only : (a b x : ℕ) → links_of n l a b x → LeftAt n first head full thinned a b x
   pub all : (a k : ℕ) → a < n → InSpan first a k → slice_index full k < no_link → slice_index thinned k ≡ slice_index full k
       → links_of n l a (slice_index head k) (slice_index full k)

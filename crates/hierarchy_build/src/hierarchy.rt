@@ -1,6 +1,6 @@
 ghost use Rattle.std.specs.Prelude.{◌≡◌, length, IfOk};
 ghost use Rattle.contraction_order.specs.Order.{IsOrder};
-ghost use Rattle.hierarchy_build.specs.Lengths.{CanPush, Keeps};
+ghost use Rattle.hierarchy_build.specs.Lengths.{CanPush, Keeps, AreBeaten};
 ghost use Rattle.hierarchy_build.specs.Hierarchy.{IsShapeOf, HasLengths, IsHierarchy};
 
 use crate::base::lower_all;
@@ -17,7 +17,7 @@ use std::sync::Arc;
 pub const NO_LINK: u64 = 144115188075855872;
 
 /// A customisable contraction hierarchy of a graph: a shape, which depends on the ends of the arcs alone, and
-/// those links upwards and downwards that may lie on a shortest walk, with their lengths.
+/// those of its links, upwards and downwards, that are as long as the distance between their ends.
 ///
 /// It takes 8 bytes a rank and 12 bytes a link that is kept, besides the shape.
 #[derive(Drop)]
@@ -61,7 +61,8 @@ fn lengths_of(alloc: Global, shape: &Shape, star: &Star) -> Result<Lengths, NoMe
 // The length of the best walk known between the ends of each link.
 fn thinned(alloc: Global, shape: &Shape, lengths: &Lengths) -> Result<Lengths, NoMemory>
     requires { CanPush (length shape.now.order) shape.now.first shape.now.head lengths.now.up lengths.now.down }
-    ensures { IfOk result (λ l. Keeps (length shape.now.order) shape.now.first shape.now.head 0 lengths.now.up lengths.now.down l.up l.down) }
+    ensures keeps { IfOk result (λ l. Keeps (length shape.now.order) shape.now.first shape.now.head 0 lengths.now.up lengths.now.down l.up l.down) }
+    ensures beaten { IfOk result (λ l. AreBeaten (length shape.now.order) shape.now.first shape.now.head 0 lengths.now.up lengths.now.down l.up l.down) }
 {
     let mut up = Vec::from_slice(alloc, lengths.up.as_slice())?;
     let mut down = Vec::from_slice(alloc, lengths.down.as_slice())?;

@@ -1,8 +1,8 @@
 //! Lengths of links lowered to those of walks over a higher rank.
 
-ghost use Rattle.std.specs.Prelude.{◌<◌};
+ghost use Rattle.std.specs.Prelude.{◌<◌, ℕ};
 ghost use Rattle.hierarchy_build.specs.Runs.{InSpan};
-ghost use Rattle.hierarchy_build.specs.Lengths.{CanPush, Keeps};
+ghost use Rattle.hierarchy_build.specs.Lengths.{CanPush, Keeps, Pulls, AreBeaten, RunIsBeaten};
 
 use crate::push::{lower, place_of};
 
@@ -19,7 +19,8 @@ fn pull_row(
     requires can { CanPush ranks first.now head.now up.old down.old }
     requires rank { v < ranks }
     requires place { InSpan first.now v i }
-    ensures { Keeps ranks first.now head.now 0 up.old down.old up.new down.new }
+    ensures pulls { Pulls ranks first.now head.now v up.old down.old up.new down.new }
+    ensures beaten { RunIsBeaten first.now head.now v i up.old down.old up.new down.new }
 {
     let mut at = first[head[i] as usize] as usize;
     for j in i + 1..first[v + 1] as usize {
@@ -40,15 +41,16 @@ fn pull_row(
 fn pull_run(ranks: usize, first: &[u32], head: &[u32], up: &mut [u64], down: &mut [u64], v: usize)
     requires can { CanPush ranks first.now head.now up.old down.old }
     requires rank { v < ranks }
-    ensures { Keeps ranks first.now head.now 0 up.old down.old up.new down.new }
+    ensures pulls { Pulls ranks first.now head.now v up.old down.old up.new down.new }
+    ensures beaten { (i : ℕ) → InSpan first.now v i → RunIsBeaten first.now head.now v i up.old down.old up.new down.new }
 {
     for i in first[v] as usize..first[v + 1] as usize {
         pull_row(ranks, first, head, up, down, v, i);
     }
 }
 
-/// Lowers each link to what two links over a higher rank make, the highest rank first. Where the links of lower
-/// ranks have been pushed, each is as long as the shortest walk between its ends then.
+/// Lowers each link to what two links over a higher rank make, the highest rank first. Where the triangles were
+/// pushed before, each is as long as the distance between its ends then.
 pub(crate) fn pull_triangles(
     ranks: usize,
     first: &[u32],
@@ -57,7 +59,8 @@ pub(crate) fn pull_triangles(
     down: &mut [u64],
 )
     requires can { CanPush ranks first.now head.now up.old down.old }
-    ensures { Keeps ranks first.now head.now 0 up.old down.old up.new down.new }
+    ensures keeps { Keeps ranks first.now head.now 0 up.old down.old up.new down.new }
+    ensures beaten { AreBeaten ranks first.now head.now 0 up.old down.old up.new down.new }
 {
     let mut v = ranks;
     'sink: while v > 0 {

@@ -26,3 +26,6 @@ loop-j-preserved c =
     across_found n first head c.args.v c.args.i j c.loop-j.at x shape c.requires.rank c.requires.place at_j (omega arith) c.loop-j.invariant.late c.place_of-across.ensures.late c.place_of-across.ensures.found c.place_of-across.ensures.earliest
     (λ b over. c.loop-j.invariant.next j b (omega arith) at_j over) in
     PulledSoFar-more n first head c.args.up.now c.args.down.now c.loop-j.up c.loop-j.down c.lower.new.lengths c.lower-in-loop-j.new.lengths c.lower-in-loop-j-2.new.lengths c.lower-in-loop-j-3.new.lengths c.args.v c.args.i j c.loop-j.at x c.requires.can c.requires.rank c.requires.place at_j (omega arith) c.loop-j.invariant across c.lower.ensures c.lower-in-loop-j.ensures c.lower-in-loop-j-2.ensures c.lower-in-loop-j-3.ensures
+
+pub returns-clause-beaten : goal.returns-clause-beaten
+returns-clause-beaten c = λ j x span lt across. (let high = span.high in c.loop-j.invariant.beaten j x (omega arith) span lt across)
