@@ -1,0 +1,5 @@
+use Rattle.std.proofs.Common.{◌≡◌}
+use Rattle.hierarchy_tests.proofs.tests.is_right_at.Given as goal
+
+abbrev pub invariant-loop-pair : goal.invariant-loop-pair
+invariant-loop-pair l = (l.quick.graph ≡ l.star) × (l.plain.graph ≡ l.star)
