@@ -4,8 +4,9 @@
 A graph is a file, or `grid:W:H` (made by `road make 7 W H`), or `road:SIDE` (bench/network.py 1 SIDE). Each round runs
 `answer` over the graph with random pairs and without a request, and takes the difference; the plain program, which takes the
 same words, is run in turn, and the bytes of both are compared. With a rank the targets are near: from each random source the
-2^K-th vertex in the order of distance. Times are means over the pairs, of the quickest round; the spread is the slowest
-round's by the quickest. Memory is the peak of the resident set.
+2^K-th vertex in the order of distance. With --before N so many more pairs are answered first, and not counted: by then the
+server may have built its hierarchy. Times are means over the pairs, of the quickest round; the spread is the slowest round's
+by the quickest. Memory is the peak of the resident set.
 """
 import array
 import heapq
@@ -80,10 +81,11 @@ def run(words, text):
 
 
 def milliseconds(words, text, pairs, rounds):
-    """The mean of each round, beyond reading; and the bytes."""
+    """The mean of each round over the last so many lines, beyond what the lines before take; and the bytes."""
     times, output = [], b""
+    before = b"".join(text.splitlines(keepends=True)[:-pairs])
     for _ in range(rounds):
-        reading, _nothing = run(words, b"")
+        reading, _some = run(words, before)
         whole, output = run(words, text)
         times.append((whole - reading) * 1000 / pairs)
     return times, output
@@ -96,12 +98,13 @@ def main():
     words.add_argument("--pairs", type=int, default=20)
     words.add_argument("--rounds", type=int, default=3)
     words.add_argument("--rank", type=int, help="targets that are the 2^RANK-th vertex from their source")
+    words.add_argument("--before", type=int, default=0, help="so many pairs are answered first, and not counted")
     given = words.parse_args()
     print("| graph | vertices | road, ms | spread | plain, ms | ratio | memory, MB |")
     print("|---|---|---|---|---|---|---|")
     for name in given.graphs:
         path = graph_file(name)
-        text = requests_of(path, given.pairs, given.rank)
+        text = requests_of(path, given.before + given.pairs, given.rank)
         times, output = milliseconds([program.built(), "answer", path], text, given.pairs, given.rounds)
         memory = figures.peak([program.built(), "answer", path], text)
         row = [os.path.basename(name), figures.vertices_of(path), "%.2f" % min(times), "%.2f" % (max(times) / min(times))]
