@@ -9,4 +9,6 @@ pub mod Kept
 pub mod Thinning
 pub mod Least
 pub mod Whole
+pub mod Named
+pub mod Own
 pub mod Versions

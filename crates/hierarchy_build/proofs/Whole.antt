@@ -5,12 +5,12 @@ use Rattle.std.proofs.lemmas.List.Elements.{All-weaker}
 use Rattle.std.proofs.lemmas.Option.{slice_get_within, get_or_from_slice_get}
 use Rattle.road_model.specs.declared.rows.ArcRow.{ArcRow}
 use Rattle.road_model.specs.Graph.{Graph, rows_of, arc_at, IsArc}
-use Rattle.road_model.specs.Dist.{HasWalk}
+use Rattle.road_model.specs.Dist.{HasWalk, DistsBelow}
 use Rattle.road_model.specs.File.{IsWithinLimits}
 use Rattle.forward_star.proofs.Bound.{dists_below}
 use Rattle.hierarchy_build.specs.declared.shape.Shape.{Shape}
 use Rattle.hierarchy_build.specs.declared.hierarchy.Hierarchy.{Hierarchy}
-use Rattle.hierarchy_build.specs.Hills.{Within, HasTriangles, IsSound, Covers}
+use Rattle.hierarchy_build.specs.Hills.{Within, HasTriangles, IsSound, Covers, HasHills}
 use Rattle.hierarchy_build.specs.Runs.{InSpan, IsUp, IsShape, IsAcross, IsRanked}
 use Rattle.hierarchy_build.specs.Lengths.{no_link, LinkAt, CanPush, AreWalks, IsWithin, AreSpelled, IsCovered, KeepsArcs, IsTight, AreTight, Keeps, AreBeaten}
 use Rattle.hierarchy_build.specs.Links.{links_of, AreKept}
@@ -102,7 +102,7 @@ sound g order n first head up down w =
     }
 
 -- an arc of a graph is one of its list
-row_at : (g : Graph) (P : ArcRow → Type 0) (k : ℕ) (r : ArcRow) → All P (rows_of g) → arc_at g k ≡ Some r → P r
+pub row_at : (g : Graph) (P : ArcRow → Type 0) (k : ℕ) (r : ArcRow) → All P (rows_of g) → arc_at g k ≡ Some r → P r
 row_at g P zero r all is = absurd (let e : arc_at g zero ≡ Some r = is in cc)
 row_at g P (suc k) r all is =
     let inside : k < length g.arcs = slice_get_within g.arcs k r is in
@@ -206,9 +206,16 @@ CanPush-read g s n first head u d is_n is_first is_head is_u is_d shape =
     (subst (λ (x : List ℕ). CanPush g.vertices s.first s.head x d) (sym is_u)
     (subst (λ (x : List ℕ). CanPush g.vertices s.first s.head (replicate (length s.head) no_link) x) (sym is_d) (CanPush-fresh g.vertices s.first s.head shape.shape)))))
 
+-- what was shown of a hierarchy while it was built
+pub record IsBuilt (g : Graph) (h : Hierarchy) : Type 0 where
+  pub hierarchy : IsHierarchy g h
+  pub sound : IsSound g (slice_index h.shape.value.order) (links_of g.vertices h.up) (links_of g.vertices h.down)
+  pub hills : HasHills no_link g (slice_index h.shape.value.rank) (links_of g.vertices h.up) (links_of g.vertices h.down)
+  pub below : DistsBelow g no_link
+
 -- the links that are kept of these
-pub IsHierarchy-kept : (g : Graph) (h : Hierarchy) (up down best_up best_down : List ℕ) → IsShapeOf g h.shape.value → HasLengths g h.shape.value up down → Keeps g.vertices h.shape.value.first h.shape.value.head 0 up down best_up best_down → AreBeaten g.vertices h.shape.value.first h.shape.value.head 0 up down best_up best_down → AreKept g.vertices h.shape.value.first h.shape.value.head up best_up h.up → AreKept g.vertices h.shape.value.first h.shape.value.head down best_down h.down → IsHierarchy g h
-IsHierarchy-kept g h up down best_up best_down is lengths best beaten kept_up kept_down =
+pub IsBuilt-kept : (g : Graph) (h : Hierarchy) (up down best_up best_down : List ℕ) → IsShapeOf g h.shape.value → HasLengths g h.shape.value up down → Keeps g.vertices h.shape.value.first h.shape.value.head 0 up down best_up best_down → AreBeaten g.vertices h.shape.value.first h.shape.value.head 0 up down best_up best_down → AreKept g.vertices h.shape.value.first h.shape.value.head up best_up h.up → AreKept g.vertices h.shape.value.first h.shape.value.head down best_down h.down → IsBuilt g h
+IsBuilt-kept g h up down best_up best_down is lengths best beaten kept_up kept_down =
     let s : Shape = h.shape.value in
     let name : ℕ → ℕ = slice_index h.shape.value.order in
     let rank : ℕ → ℕ = slice_index h.shape.value.rank in
@@ -217,21 +224,20 @@ IsHierarchy-kept g h up down best_up best_down is lengths best beaten kept_up ke
     let full : IsSound g (slice_index h.shape.value.order) (LinkAt g.vertices h.shape.value.first h.shape.value.head up) (LinkAt g.vertices h.shape.value.first h.shape.value.head down) = sound g s.order g.vertices s.first s.head up down lengths.walks in
     let thins = Thins-kept g s.order g.vertices s.first s.head up down best_up best_down h.up h.down best.rise best.fall (best.walks g s.order lengths.walks) kept_up kept_down in
     let kept : IsSound g (slice_index h.shape.value.order) (links_of g.vertices h.up) (links_of g.vertices h.down) = IsSound-thinned g name U D (links_of g.vertices h.up) (links_of g.vertices h.down) full thins in
-    record {
+    let hills : HasHills no_link g (slice_index h.shape.value.rank) (links_of g.vertices h.up) (links_of g.vertices h.down) = HasHills-thinned no_link g name rank U D (links_of g.vertices h.up) (links_of g.vertices h.down) is.ranked.back lengths.hills full thins in
+    let whole : IsHierarchy g h = record {
       shape = is;
       up = kept_up.links;
       down = kept_down.links;
       shortest = AreShortest-left g name rank g.vertices s.first s.head up down best_up best_down (links_of g.vertices h.up) (links_of g.vertices h.down) is.ranked.back is.shape best.rise best.fall beaten lengths.hills kept kept_up.only kept_down.only;
-      dists =
-          hills_have_dists no_link g name rank (links_of g.vertices h.up) (links_of g.vertices h.down) is.ranked.back
-          (HasHills-thinned no_link g name rank U D (links_of g.vertices h.up) (links_of g.vertices h.down) is.ranked.back lengths.hills full thins)
-          kept lengths.below;
-    }
+      dists = hills_have_dists no_link g name rank (links_of g.vertices h.up) (links_of g.vertices h.down) is.ranked.back hills kept lengths.below;
+    } in
+    record { hierarchy = whole; sound = kept; hills = hills; below = lengths.below }
 
 -- by what the code read
-pub IsHierarchy-read : (g : Graph) (h : Hierarchy) (a b c d : Shape) (up down best_up best_down : List ℕ) → a ≡ h.shape.value → b ≡ h.shape.value → c ≡ h.shape.value → d ≡ h.shape.value → IsShapeOf g h.shape.value → HasLengths g a up down → Keeps (length b.order) b.first b.head 0 up down best_up best_down → AreBeaten (length b.order) b.first b.head 0 up down best_up best_down → AreKept (length c.order) c.first c.head up best_up h.up → AreKept (length d.order) d.first d.head down best_down h.down → IsHierarchy g h
-IsHierarchy-read g h a b c d up down best_up best_down is_a is_b is_c is_d is lengths best beaten kept_up kept_down =
-    IsHierarchy-kept g h up down best_up best_down is
+pub IsBuilt-read : (g : Graph) (h : Hierarchy) (a b c d : Shape) (up down best_up best_down : List ℕ) → a ≡ h.shape.value → b ≡ h.shape.value → c ≡ h.shape.value → d ≡ h.shape.value → IsShapeOf g h.shape.value → HasLengths g a up down → Keeps (length b.order) b.first b.head 0 up down best_up best_down → AreBeaten (length b.order) b.first b.head 0 up down best_up best_down → AreKept (length c.order) c.first c.head up best_up h.up → AreKept (length d.order) d.first d.head down best_down h.down → IsBuilt g h
+IsBuilt-read g h a b c d up down best_up best_down is_a is_b is_c is_d is lengths best beaten kept_up kept_down =
+    IsBuilt-kept g h up down best_up best_down is
     (subst (λ (s : Shape). HasLengths g s up down) is_a lengths)
     (subst (λ (n : ℕ). Keeps n h.shape.value.first h.shape.value.head 0 up down best_up best_down) is.ranked.order_size
     (subst (λ (s : Shape). Keeps (length s.order) s.first s.head 0 up down best_up best_down) is_b best))

@@ -4,3 +4,4 @@ pub mod Lengths
 pub mod Links
 pub mod Waits
 pub mod Hierarchy
+pub mod Own

@@ -1,7 +1,9 @@
 ghost use Rattle.std.specs.Prelude.{◌≡◌, length, IfOk};
+ghost use Rattle.road_model.specs.Dist.{HaveSameDist};
 ghost use Rattle.contraction_order.specs.Order.{IsOrder};
 ghost use Rattle.hierarchy_build.specs.Lengths.{CanPush, Keeps, AreBeaten};
 ghost use Rattle.hierarchy_build.specs.Hierarchy.{IsShapeOf, HasLengths, IsHierarchy};
+ghost use Rattle.hierarchy_build.specs.Own.{own_graph};
 
 use crate::base::lower_all;
 use crate::links::{Links, keep};
@@ -17,7 +19,8 @@ use std::sync::Arc;
 pub const NO_LINK: u64 = 144115188075855872;
 
 /// A customisable contraction hierarchy of a graph: a shape, which depends on the ends of the arcs alone, and
-/// those of its links, upwards and downwards, that are as long as the distance between their ends.
+/// those of its links, upwards and downwards, that are as long as the distance between their ends. The links form
+/// a graph of its own, between the vertices of their ranks, which has the distances of the graph.
 ///
 /// It takes 8 bytes a rank and 12 bytes a link that is kept, besides the shape.
 #[derive(Drop)]
@@ -79,8 +82,8 @@ fn thinned(alloc: Global, shape: &Shape, lengths: &Lengths) -> Result<Lengths, N
     })
 }
 
-/// The hierarchy of a graph for a shape of it, as that of an earlier version with the same ends of arcs. It
-/// takes time linear in its triangles, and no queue; while it runs, 32 bytes a link of the shape besides.
+/// The hierarchy of a graph for a shape of it, as that of an earlier version with the same ends of arcs. It is
+/// a hierarchy of its own graph too, which has the same distances. It takes time linear in its triangles, and no queue; while it runs, 32 bytes a link of the shape besides.
 pub fn customise(
     alloc: Global,
     shape: Arc<Shape, Global>,
@@ -88,8 +91,12 @@ pub fn customise(
 ) -> Result<Hierarchy, NoMemory>
     requires { IsShapeOf star.now shape.value }
     ensures hierarchy { IfOk result (λ h. IsHierarchy star.now h) }
+    ensures own { IfOk result (λ h. IsHierarchy (own_graph h) h) }
+    ensures same { IfOk result (λ h. HaveSameDist star.now (own_graph h)) }
     ensures shape { IfOk result (λ h. h.shape.value ≡ shape.value) }
 {
+    // the ends of its arcs are vertices
+    let _limits = star.graph();
     let lengths = lengths_of(alloc, &shape, star)?;
     let best = thinned(alloc, &shape, &lengths)?;
     let up = keep(alloc, &shape, lengths.up, best.up)?;
@@ -101,7 +108,9 @@ pub fn customise(
 /// than 4294967295 links, or more triangles than 2^27 and 2048 a vertex.
 pub fn contract(alloc: Global, star: &Star, order: Order) -> Result<Hierarchy, NoMemory>
     requires { IsOrder star.now.vertices order.vertices }
-    ensures { IfOk result (λ h. IsHierarchy star.now h) }
+    ensures hierarchy { IfOk result (λ h. IsHierarchy star.now h) }
+    ensures own { IfOk result (λ h. IsHierarchy (own_graph h) h) }
+    ensures same { IfOk result (λ h. HaveSameDist star.now (own_graph h)) }
 {
     let shape = Shape::build(alloc, star, order)?;
     let shape = Arc::new(alloc, shape)?;

@@ -1,23 +1,24 @@
 -- The least hill from the rank of the source to that of a vertex is its distance.
-use Rattle.std.proofs.Common.{◌≡◌, ◌<◌, ◌≤◌, ℕ, Some, None, length, slice_index}
-use Rattle.road_model.specs.Graph.{Graph, IsVertex}
+use Rattle.std.proofs.Common.{◌≡◌, ◌<◌, ◌≤◌, ℕ, Some, None, length, slice_index, refl}
+use Rattle.road_model.specs.Graph.{IsVertex}
 use Rattle.road_model.specs.Dist.{IsDist}
 use Rattle.hierarchy_build.specs.declared.hierarchy.Hierarchy.{Hierarchy}
 use Rattle.hierarchy_build.specs.Lengths.{no_link}
+use Rattle.hierarchy_build.specs.Own.{own_graph}
 use Rattle.hierarchy_query.specs.declared.least_hills.LeastHills.{LeastHills}
 use Rattle.hierarchy_query.specs.Climbs.{IsLeastHill}
 use Rattle.hierarchy_query.specs.Asks.{up_links, down_links}
 use Rattle.hierarchy_query.specs.Sources.{IsAsking}
 use Rattle.hierarchy_query.proofs.Asks.{least_of_ranks, dist_of_least, none_of_least}
 
-least_of_source : (g : Graph) (h : Hierarchy) (source to x best : ℕ) (l : LeastHills) → IsAsking g h source l → x ≡ slice_index h.shape.value.rank to → IsLeastHill (up_links (length h.shape.value.order) h) (down_links (length h.shape.value.order) h) l.from x best → IsLeastHill (up_links g.vertices h) (down_links g.vertices h) (slice_index h.shape.value.rank source) (slice_index h.shape.value.rank to) best
-least_of_source g h source to x best l asking is least =
-    least_of_ranks g h (length h.shape.value.order) l.from x best source to asking.hierarchy.shape.ranked.order_size asking.from is least
+least_of_source : (h : Hierarchy) (source to x best : ℕ) (l : LeastHills) → IsAsking h source l → x ≡ slice_index h.shape.value.rank to → IsLeastHill (up_links (length h.shape.value.order) h) (down_links (length h.shape.value.order) h) l.from x best → IsLeastHill (up_links (length h.shape.value.order) h) (down_links (length h.shape.value.order) h) (slice_index h.shape.value.rank source) (slice_index h.shape.value.rank to) best
+least_of_source h source to x best l asking is least =
+    least_of_ranks (own_graph h) h (length h.shape.value.order) l.from x best source to refl asking.from is least
 
-pub dist_of_source : (g : Graph) (h : Hierarchy) (source to x best : ℕ) (l : LeastHills) → IsAsking g h source l → IsVertex g.vertices to → x ≡ slice_index h.shape.value.rank to → IsLeastHill (up_links (length h.shape.value.order) h) (down_links (length h.shape.value.order) h) l.from x best → best < no_link → IsDist g source to (Some best)
-dist_of_source g h source to x best l asking is_to is least real =
-    dist_of_least g h best source to asking.hierarchy asking.source is_to (least_of_source g h source to x best l asking is least) real
+pub dist_of_source : (h : Hierarchy) (source to x best : ℕ) (l : LeastHills) → IsAsking h source l → IsVertex (length h.shape.value.order) to → x ≡ slice_index h.shape.value.rank to → IsLeastHill (up_links (length h.shape.value.order) h) (down_links (length h.shape.value.order) h) l.from x best → best < no_link → IsDist (own_graph h) source to (Some best)
+dist_of_source h source to x best l asking is_to is least real =
+    dist_of_least (own_graph h) h best source to asking.hierarchy asking.source is_to (least_of_source h source to x best l asking is least) real
 
-pub none_of_source : (g : Graph) (h : Hierarchy) (source to x best : ℕ) (l : LeastHills) → IsAsking g h source l → IsVertex g.vertices to → x ≡ slice_index h.shape.value.rank to → IsLeastHill (up_links (length h.shape.value.order) h) (down_links (length h.shape.value.order) h) l.from x best → no_link ≤ best → IsDist g source to None
-none_of_source g h source to x best l asking is_to is least none =
-    none_of_least g h best source to asking.hierarchy asking.source is_to (least_of_source g h source to x best l asking is least) none
+pub none_of_source : (h : Hierarchy) (source to x best : ℕ) (l : LeastHills) → IsAsking h source l → IsVertex (length h.shape.value.order) to → x ≡ slice_index h.shape.value.rank to → IsLeastHill (up_links (length h.shape.value.order) h) (down_links (length h.shape.value.order) h) l.from x best → no_link ≤ best → IsDist (own_graph h) source to None
+none_of_source h source to x best l asking is_to is least none =
+    none_of_least (own_graph h) h best source to asking.hierarchy asking.source is_to (least_of_source h source to x best l asking is least) none

@@ -1,6 +1,6 @@
 ghost use Rattle.std.specs.Prelude.{◌≡◌, IfOk};
 ghost use Rattle.road_model.specs.Graph.{IsVertex};
-ghost use Rattle.road_model.specs.Dist.{IsDist};
+ghost use Rattle.road_model.specs.Dist.{IsDist, HaveSameDist};
 ghost use Rattle.hierarchy_query.specs.Engines.{graph_of};
 
 use crate::oracle::HierarchyOracle;
@@ -20,7 +20,7 @@ const PATIENCE: u64 = 16;
 #[derive(Drop)]
 enum Engine<'a> {
     Plain(PlainOracle<'a, Star>),
-    Climbing(HierarchyOracle<'a>),
+    Climbing(HierarchyOracle),
 }
 
 impl<'a> Engine<'a> {
@@ -44,15 +44,15 @@ impl<'a> Engine<'a> {
     }
 }
 
-// Builds a hierarchy of a graph, and an oracle by it.
-fn climbing<'a>(alloc: Global, star: &'a Star) -> Result<Engine<'a>, NoMemory>
-    ensures { IfOk result (λ e. graph_of e ≡ star.now) }
+// Builds a hierarchy of a graph, and an oracle by it, which answers for a graph with the same distances.
+fn climbing(alloc: Global, star: &Star) -> Result<HierarchyOracle, NoMemory>
+    ensures { IfOk result (λ o. HaveSameDist star.now o.graph) }
 {
     let order = order_of(alloc, star)?;
     let hierarchy = contract(alloc, star, order)?;
     let hierarchy = Arc::new(alloc, hierarchy)?;
-    let oracle = HierarchyOracle::new(alloc, star, hierarchy)?;
-    Ok(Engine::Climbing(oracle))
+    let oracle = HierarchyOracle::new(alloc, hierarchy)?;
+    Ok(oracle)
 }
 
 /// An oracle that answers by plain searches until a hierarchy pays off, and then by the hierarchy.
@@ -79,7 +79,7 @@ pub struct AdaptiveOracle<'a> {
 }
 
 impl<'a> Model for AdaptiveOracle<'a> {
-    ghost use Rattle.std.specs.Prelude.{◌≡◌};
+    ghost use Rattle.road_model.specs.Dist.{HaveSameDist};
     ghost use Rattle.hierarchy_query.specs.Asks.{Questions};
     ghost use Rattle.hierarchy_query.specs.Engines.{graph_of};
 
@@ -87,7 +87,7 @@ impl<'a> Model for AdaptiveOracle<'a> {
 
     ghost view = { λ o. record { graph = o.star.now; asked = o.asked } };
 
-    ghost invariant = { λ o. graph_of o.engine ≡ o.star.now };
+    ghost invariant = { λ o. HaveSameDist o.star.now (graph_of o.engine) };
 }
 
 impl<'a> AdaptiveOracle<'a> {
@@ -121,9 +121,9 @@ impl<'a> AdaptiveOracle<'a> {
             return;
         }
         self.hopeful = false;
-        if let Ok(engine) = climbing(self.alloc, self.star) {
+        if let Ok(oracle) = climbing(self.alloc, self.star) {
             self.settled_before = settled;
-            self.engine = engine;
+            self.engine = Engine::Climbing(oracle);
         }
     }
 }

@@ -4,53 +4,51 @@ ghost use Rattle.std.specs.Prelude.{◌≡◌, IfOk};
 ghost use Rattle.road_model.specs.Graph.{IsVertex};
 ghost use Rattle.road_model.specs.Dist.{IsDist};
 ghost use Rattle.hierarchy_build.specs.Hierarchy.{IsHierarchy};
+ghost use Rattle.hierarchy_build.specs.Own.{own_graph};
 
 use crate::least_hills::LeastHills;
-use forward_star::Star;
 use hierarchy_build::{Hierarchy, NO_LINK};
 use road_model::{NoMemory, Vertex};
 use std::alloc::Global;
 use std::marker::Model;
 use std::sync::Arc;
 
-/// The distances of a graph from one source, by a hierarchy of it. Each is worked out when it is first asked for,
-/// and kept.
+/// The distances from one source in the graph that a hierarchy's links form. Each is worked out when it is first
+/// asked for, and kept.
 ///
 /// It keeps 16 bytes a vertex, and 4 bytes a rank whose distance is worked out.
 #[derive(Drop)]
-pub struct DistancesFrom<'a> {
-    star: &'a Star,
+pub struct DistancesFrom {
     hierarchy: Arc<Hierarchy, Global>,
     source: Vertex,
     hills: LeastHills,
 }
 
-impl<'a> Model for DistancesFrom<'a> {
+impl Model for DistancesFrom {
+    ghost use Rattle.hierarchy_build.specs.Own.{own_graph};
     ghost use Rattle.hierarchy_query.specs.Sources.{Source, IsAsking};
 
     ghost Value = { Source };
 
-    ghost view = { λ d. record { graph = d.star.now; source = d.source } };
+    ghost view = { λ d. record { graph = own_graph d.hierarchy.value; source = d.source } };
 
-    ghost invariant = { λ d. IsAsking d.star.now d.hierarchy.value d.source d.hills };
+    ghost invariant = { λ d. IsAsking d.hierarchy.value d.source d.hills };
 }
 
-impl<'a> DistancesFrom<'a> {
+impl DistancesFrom {
     /// The distances from a vertex, none worked out yet. It takes time linear in the vertices.
     pub fn of(
         alloc: Global,
-        star: &'a Star,
         hierarchy: Arc<Hierarchy, Global>,
         source: Vertex,
-    ) -> Result<DistancesFrom<'a>, NoMemory>
-        requires hierarchy { IsHierarchy star.now hierarchy.value }
-        requires source { IsVertex star.now.vertices source }
-        ensures { IfOk result (λ d. d ≡ record { graph = star.now; source = source }) }
+    ) -> Result<DistancesFrom, NoMemory>
+        requires hierarchy { IsHierarchy (own_graph hierarchy.value) hierarchy.value }
+        requires source { IsVertex (own_graph hierarchy.value).vertices source }
+        ensures { IfOk result (λ d. d ≡ record { graph = own_graph hierarchy.value; source = source }) }
     {
         let rank = hierarchy.shape.rank.as_slice()[source.number() as usize];
         let hills = LeastHills::of(alloc, &hierarchy, rank)?;
         Ok(DistancesFrom {
-            star,
             hierarchy,
             source,
             hills,

@@ -1,20 +1,20 @@
 ghost use Rattle.std.specs.Prelude.{◌≡◌, IfOk};
 ghost use Rattle.hierarchy_build.specs.Hierarchy.{IsHierarchy};
+ghost use Rattle.hierarchy_build.specs.Own.{own_graph};
 
 use crate::climb::least_hill;
-use forward_star::Star;
 use hierarchy_build::{Hierarchy, NO_LINK};
 use road_model::{NoMemory, Oracle, Vertex};
 use std::alloc::Global;
 use std::marker::Model;
 use std::sync::Arc;
 
-/// An oracle that answers each question by two climbs in a hierarchy.
+/// An oracle that answers each question by two climbs in a hierarchy. Its graph is the one that the hierarchy's links
+/// form, and it holds no other.
 ///
 /// It keeps 16 bytes a vertex. A question takes no memory, and the time of the links above its two vertices.
 #[derive(Drop)]
-pub struct HierarchyOracle<'a> {
-    star: &'a Star,
+pub struct HierarchyOracle {
     hierarchy: Arc<Hierarchy, Global>,
     forward: Vec<u64>,
     backward: Vec<u64>,
@@ -22,31 +22,30 @@ pub struct HierarchyOracle<'a> {
     settled: u64,
 }
 
-impl<'a> Model for HierarchyOracle<'a> {
+impl Model for HierarchyOracle {
+    ghost use Rattle.hierarchy_build.specs.Own.{own_graph};
     ghost use Rattle.hierarchy_query.specs.Asks.{Questions, IsReady};
 
     ghost Value = { Questions };
 
-    ghost view = { λ o. record { graph = o.star.now; asked = o.asked } };
+    ghost view = { λ o. record { graph = own_graph o.hierarchy.value; asked = o.asked } };
 
-    ghost invariant = { λ o. IsReady o.star.now o.hierarchy.value o.forward.items o.backward.items };
+    ghost invariant = { λ o. IsReady o.hierarchy.value o.forward.items o.backward.items };
 }
 
-impl<'a> HierarchyOracle<'a> {
-    /// An oracle for a graph by a hierarchy of it, not asked yet.
+impl HierarchyOracle {
+    /// An oracle by a hierarchy, not asked yet. It takes time linear in the vertices.
     pub fn new(
         alloc: Global,
-        star: &'a Star,
         hierarchy: Arc<Hierarchy, Global>,
-    ) -> Result<HierarchyOracle<'a>, NoMemory>
-        requires { IsHierarchy star.now hierarchy.value }
-        ensures { IfOk result (λ o. o ≡ record { graph = star.now; asked = 0 }) }
+    ) -> Result<HierarchyOracle, NoMemory>
+        requires { IsHierarchy (own_graph hierarchy.value) hierarchy.value }
+        ensures { IfOk result (λ o. o ≡ record { graph = own_graph hierarchy.value; asked = 0 }) }
     {
         let ranks = hierarchy.shape.order.len();
         let forward = vec![in alloc; NO_LINK; ranks]?;
         let backward = vec![in alloc; NO_LINK; ranks]?;
         Ok(HierarchyOracle {
-            star,
             hierarchy,
             forward,
             backward,
@@ -56,7 +55,7 @@ impl<'a> HierarchyOracle<'a> {
     }
 }
 
-impl<'a> Oracle for HierarchyOracle<'a> {
+impl Oracle for HierarchyOracle {
     ghost graph = { λ o. o.graph };
 
     ghost asked = { λ o. o.asked };

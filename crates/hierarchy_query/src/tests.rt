@@ -75,7 +75,7 @@ fn distances_of(
     let vertices = star.graph().vertices();
     let order = order_by(alloc, vertices, wishes)?;
     let hierarchy = contract(alloc, star, order)?;
-    let mut oracle = HierarchyOracle::new(alloc, star, Arc::new(alloc, hierarchy)?)?;
+    let mut oracle = HierarchyOracle::new(alloc, Arc::new(alloc, hierarchy)?)?;
     let mut distances = Vec::new(alloc);
     for pair in pairs {
         let (from, to) = *pair;
@@ -130,7 +130,7 @@ fn listed(alloc: Global, star: &Star, from: u32, numbers: &[u32]) -> Result<Dist
     let targets = vertices_of(alloc, vertices, numbers)?;
     let order = order_of(alloc, star)?;
     let hierarchy = Arc::new(alloc, contract(alloc, star, order)?)?;
-    let list = one_to_many(alloc, star, hierarchy, Vertex(from), targets.as_slice())?;
+    let list = one_to_many(alloc, hierarchy, Vertex(from), targets.as_slice())?;
     Ok(list)
 }
 

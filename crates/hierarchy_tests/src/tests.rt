@@ -16,12 +16,12 @@ use tree_search::PlainOracle;
 
 const SEED: u64 = 5;
 
-fn oracle_of<'a>(alloc: Global, star: &'a Star, order: Order) -> Result<HierarchyOracle<'a>, Fail>
+fn oracle_of(alloc: Global, star: &Star, order: Order) -> Result<HierarchyOracle, Fail>
     requires { IsOrder star.now.vertices order.vertices }
-    ensures { IfOk result (λ o. o.graph ≡ star.now) }
+    ensures { IfOk result (λ o. o.graph.vertices ≡ star.now.vertices) }
 {
     let hierarchy = Arc::new(alloc, contract(alloc, star, order)?)?;
-    Ok(HierarchyOracle::new(alloc, star, hierarchy)?)
+    Ok(HierarchyOracle::new(alloc, hierarchy)?)
 }
 
 // Whether a plain search finds the same for each pair of vertices.

@@ -8,6 +8,7 @@
 ghost use Rattle.std.specs.Prelude.{◌≤◌, ◌≡◌, All, IfOk};
 ghost use Rattle.road_model.specs.Graph.{IsVertex};
 ghost use Rattle.hierarchy_build.specs.Hierarchy.{IsHierarchy};
+ghost use Rattle.hierarchy_build.specs.Own.{own_graph};
 
 use contraction_order::order_of;
 use dimacs_reader::{GraphError, read_graph};
@@ -61,7 +62,8 @@ fn tell(rt: &HostRuntime, part: &str, begin: Instant) -> io::Result<()> {
 
 // The hierarchy of a graph, built, and then given its lengths anew.
 fn build(rt: &HostRuntime, star: &Star) -> io::Result<Hierarchy>
-    ensures { IfOk result (IsHierarchy star.now) }
+    ensures own { IfOk result (λ h. IsHierarchy (own_graph h) h) }
+    ensures vertices { IfOk result (λ h. (own_graph h).vertices ≡ star.now.vertices) }
 {
     let begin = Instant::now(rt)?;
     let order = order_of(rt.alloc(), star)?;
@@ -79,20 +81,21 @@ fn build(rt: &HostRuntime, star: &Star) -> io::Result<Hierarchy>
 // The sum of the distances of random pairs, and how many have one.
 fn ask(
     rt: &HostRuntime,
-    star: &Star,
+    vertices: u32,
     hierarchy: Arc<Hierarchy, Global>,
     words: &mut SplitMix64,
     pairs: u32,
 ) -> io::Result<()>
-    requires hierarchy { IsHierarchy star.now hierarchy.value }
-    requires some { 1 ≤ star.now.vertices }
+    requires hierarchy { IsHierarchy (own_graph hierarchy.value) hierarchy.value }
+    requires vertices { vertices ≡ (own_graph hierarchy.value).vertices }
+    requires some { 1 ≤ vertices }
 {
-    let mut oracle = HierarchyOracle::new(rt.alloc(), star, hierarchy)?;
+    let mut oracle = HierarchyOracle::new(rt.alloc(), hierarchy)?;
     let (mut sum, mut reached) = (0u64, 0u32);
     let begin = Instant::now(rt)?;
     for _pair in 0..pairs {
-        let from = drawn(words, star.vertices());
-        let to = drawn(words, star.vertices());
+        let from = drawn(words, vertices);
+        let to = drawn(words, vertices);
         if let Some(distance) = oracle.distance(from, to)? {
             sum = sum.wrapping_add(distance);
             reached = reached.wrapping_add(1);
@@ -106,20 +109,21 @@ fn ask(
 // The sum of the distances from a random vertex to many others, and how many have one.
 fn ask_many(
     rt: &HostRuntime,
-    star: &Star,
+    vertices: u32,
     hierarchy: Arc<Hierarchy, Global>,
     words: &mut SplitMix64,
 ) -> io::Result<()>
-    requires hierarchy { IsHierarchy star.now hierarchy.value }
-    requires some { 1 ≤ star.now.vertices }
+    requires hierarchy { IsHierarchy (own_graph hierarchy.value) hierarchy.value }
+    requires vertices { vertices ≡ (own_graph hierarchy.value).vertices }
+    requires some { 1 ≤ vertices }
 {
-    let from = drawn(words, star.vertices());
+    let from = drawn(words, vertices);
     let mut targets = Vec::new(rt.alloc());
     for _target in 0..TARGETS {
-        targets.push(drawn(words, star.vertices()))?;
+        targets.push(drawn(words, vertices))?;
     }
     let begin = Instant::now(rt)?;
-    let found = one_to_many(rt.alloc(), star, hierarchy, from, &targets)?;
+    let found = one_to_many(rt.alloc(), hierarchy, from, &targets)?;
     tell(rt, "many", begin)?;
     let (mut sum, mut reached) = (0u64, 0u32);
     for distance in found.as_slice().iter().flatten() {
@@ -139,12 +143,13 @@ fn main(rt: HostRuntime) -> io::Result<()> {
         return Err(ErrorKind::InvalidInput.into());
     };
     let star = load(&rt, &name)?;
-    if star.vertices() == 0 {
+    let vertices = star.vertices();
+    if vertices == 0 {
         return Ok(());
     }
     let hierarchy = Arc::new(rt.alloc(), build(&rt, &star)?)?;
     let mut words = SplitMix64::from_seed(SEED.to_le_bytes());
-    ask(&rt, &star, hierarchy.clone()?, &mut words, pairs)?;
-    ask_many(&rt, &star, hierarchy, &mut words)?;
+    ask(&rt, vertices, hierarchy.clone()?, &mut words, pairs)?;
+    ask_many(&rt, vertices, hierarchy, &mut words)?;
     Ok(())
 }

@@ -2,4 +2,4 @@ use Rattle.std.proofs.Common.{◌≡◌}
 use Rattle.hierarchy_query.proofs.tests.distances_of.Given as goal
 
 abbrev pub invariant-loop-pair : goal.invariant-loop-pair
-invariant-loop-pair l = l.oracle.graph ≡ l.star
+invariant-loop-pair l = l.oracle.graph.vertices ≡ l.star.vertices
