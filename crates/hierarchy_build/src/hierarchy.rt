@@ -83,7 +83,8 @@ fn thinned(alloc: Global, shape: &Shape, lengths: &Lengths) -> Result<Lengths, N
 }
 
 /// The hierarchy of a graph for a shape of it, as that of an earlier version with the same ends of arcs. It is
-/// a hierarchy of its own graph too, which has the same distances. It takes time linear in its triangles, and no queue; while it runs, 32 bytes a link of the shape besides.
+/// a hierarchy of its own graph too, which has the same distances. It takes time linear in its triangles, and no
+/// queue; while it runs, 32 bytes a link of the shape besides.
 pub fn customise(
     alloc: Global,
     shape: Arc<Shape, Global>,
