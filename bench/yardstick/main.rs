@@ -1,11 +1,12 @@
-//! The jobs of `road check`, `print`, `make`, and `answer` for `optimum`, `route` and `why` lines, in plain Rust with std
-//! alone: the yardstick of the figures. It takes the same words, and checks the form of a graph file, but names no fault;
-//! a line that it doesn't know, a cursor among them, ends the run.
+//! The jobs of `road check`, `print`, `make`, and `answer` for `optimum`, `route` and `why` lines, in plain Rust with
+//! std alone: the yardstick of the figures. It takes the same words, and checks the form of a graph file, but names
+//! no fault; a line that it doesn't know, a cursor among them, ends the run.
 //!
-//! An answer is found by the plan of the proved program, so that the ratio of the times tells what the proofs cost. Slower by
-//! choice are numbers, which std prints, and the queue, which is std's heap with two children. There is no hierarchy: each
-//! question of a test is a search that stops at its target, however many there are. Quicker may be that the arcs of both trees, and the
-//! jumps on them, are found once for each vertex in one pass, and that a question never looks farther than the path is long.
+//! An answer is found by the plan of the proved program, so that the ratio of the times tells what the proofs cost.
+//! Slower by choice are numbers, which std prints, and the queue, which is std's heap with two children. There is no
+//! hierarchy: each question of a test is a search that stops at its target, however many there are. Quicker may be
+//! that the arcs of both trees, and the jumps on them, are found once for each vertex in one pass, and that a
+//! question never looks farther than the path is long.
 //! rustc --edition 2021 -O -C target-cpu=x86-64-v2 main.rs
 mod graph;
 mod replies;
@@ -14,7 +15,7 @@ mod search;
 mod trails;
 mod ways;
 
-use graph::{Row, read_rows};
+use graph::{read_rows, Row};
 use std::io::{self, BufWriter, Write};
 
 fn check(path: &str) -> io::Result<()> {
@@ -63,7 +64,11 @@ fn main() -> io::Result<()> {
     match words[0].as_str() {
         "check" => check(&words[1]),
         "print" => print(&words[1]),
-        "make" => make(words[1].parse().unwrap(), words[2].parse().unwrap(), words[3].parse().unwrap()),
+        "make" => make(
+            words[1].parse().unwrap(),
+            words[2].parse().unwrap(),
+            words[3].parse().unwrap(),
+        ),
         _ => replies::answer(&words[1]),
     }
 }

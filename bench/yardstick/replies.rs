@@ -15,7 +15,13 @@ struct Options {
 fn options_of<'a>(source: u32, target: u32, mut words: impl Iterator<Item = &'a str>) -> Option<Options> {
     let quarter = Ratio { num: 1, den: 4 };
     let gamma = Ratio { num: 4, den: 5 };
-    let query = Query { source, target, gamma, alpha: quarter, epsilon: quarter };
+    let query = Query {
+        source,
+        target,
+        gamma,
+        alpha: quarter,
+        epsilon: quarter,
+    };
     let mut options = Options { query, size: 5 };
     while let Some(name) = words.next() {
         let value = words.next()?;
@@ -47,19 +53,36 @@ fn write_path(reply: &mut String, head: std::fmt::Arguments<'_>, arcs: &[u32]) {
 }
 
 fn write_optimum(reply: &mut String, optimum: &Trail) {
-    write_path(reply, format_args!("optimum length {}", optimum.length()), &optimum.arcs);
+    write_path(
+        reply,
+        format_args!("optimum length {}", optimum.length()),
+        &optimum.arcs,
+    );
 }
 
 /// The first page, and the cursor of the next one.
 fn write_page(reply: &mut String, options: &Options, optimum: &Trail, routes: &[Route]) {
     write_optimum(reply, optimum);
     for route in routes.iter().take(options.size - 1) {
-        let Route { via, length, shared, plateau, rank, arcs } = route;
+        let Route {
+            via,
+            length,
+            shared,
+            plateau,
+            rank,
+            arcs,
+        } = route;
         let head = format_args!("route via {via} length {length} shared {shared} plateau {plateau} rank {rank}");
         write_path(reply, head, arcs);
     }
     if routes.len() >= options.size {
-        let Query { source, target, gamma, alpha, epsilon } = &options.query;
+        let Query {
+            source,
+            target,
+            gamma,
+            alpha,
+            epsilon,
+        } = &options.query;
         let _ = write!(reply, "more 1.{source}.{target}");
         for ratio in [gamma, alpha, epsilon] {
             let _ = write!(reply, ".{}.{}", ratio.num, ratio.den);
@@ -87,7 +110,13 @@ fn write_verdict(reply: &mut String, via: u32, verdict: &Verdict) {
 fn reply_to(planner: &mut Planner, vertices: usize, line: &str, reply: &mut String) -> Option<()> {
     let mut words = line.split_ascii_whitespace();
     let word = words.next()?;
-    let mut vertex = || words.next()?.parse().ok().filter(|&v: &u32| v >= 1 && v as usize <= vertices);
+    let mut vertex = || {
+        words
+            .next()?
+            .parse()
+            .ok()
+            .filter(|&v: &u32| v >= 1 && v as usize <= vertices)
+    };
     let (source, target) = (vertex()?, vertex()?);
     let via = if word == "why" { Some(vertex()?) } else { None };
     let options = options_of(source, target, words)?;
@@ -120,7 +149,10 @@ pub fn answer(path: &str) -> io::Result<()> {
         let line = line?;
         reply.clear();
         if reply_to(&mut planner, vertices, &line, &mut reply).is_none() {
-            return Err(io::Error::new(io::ErrorKind::InvalidInput, format!("not known here: {line}")));
+            return Err(io::Error::new(
+                io::ErrorKind::InvalidInput,
+                format!("not known here: {line}"),
+            ));
         }
         out.write_all(reply.as_bytes())?;
     }

@@ -1,6 +1,6 @@
 //! The optimum of a query, its alternatives in rank order, and the verdict on a vertex.
 use crate::graph::Graph;
-use crate::search::{FAR, Search};
+use crate::search::{Search, FAR};
 use crate::trails::{Pair, Tests, Trail};
 use crate::ways::{Chain, Ways};
 use std::mem;
@@ -14,7 +14,10 @@ pub struct Ratio {
 
 impl Ratio {
     fn cross(self, part: u64, whole: u64) -> (u128, u128) {
-        (u128::from(part) * u128::from(self.den), u128::from(whole) * u128::from(self.num))
+        (
+            u128::from(part) * u128::from(self.den),
+            u128::from(whole) * u128::from(self.num),
+        )
     }
 
     /// A part is at most this ratio of a whole.
@@ -34,7 +37,11 @@ impl Ratio {
     /// A length is at most a distance and this ratio of it.
     #[inline]
     pub fn stretches(self, length: u64, distance: u64) -> bool {
-        Ratio { num: self.num + self.den, ..self }.allows(length, distance)
+        Ratio {
+            num: self.num + self.den,
+            ..self
+        }
+        .allows(length, distance)
     }
 
     /// The greatest length that does.
@@ -113,7 +120,12 @@ impl Planner {
         arcs.reverse();
         vertices.reverse();
         sums.reverse();
-        Trail { via_at: arcs.len(), arcs, vertices, sums }
+        Trail {
+            via_at: arcs.len(),
+            arcs,
+            vertices,
+            sums,
+        }
     }
 
     /// The canonical path through a vertex that both of the last searches came to.
@@ -143,7 +155,10 @@ impl Planner {
         self.lay_out(optimum, bound);
         // The table is taken out while the searches of the tests run.
         let ways = mem::replace(&mut self.ways, Ways::new(0));
-        let mut routes: Vec<Route> = ways.chains().filter_map(|chain| self.route(query, optimum, &ways, &chain)).collect();
+        let mut routes: Vec<Route> = ways
+            .chains()
+            .filter_map(|chain| self.route(query, optimum, &ways, &chain))
+            .collect();
         self.ways = ways;
         routes.sort_by_key(|route| (route.rank, route.via));
         routes
@@ -169,14 +184,25 @@ impl Planner {
             return None;
         }
         let trail = self.trail(ways.vertices[least]);
-        let mut tests = Tests { out: &self.graph.out, search: &mut self.asked, trail: &trail };
+        let mut tests = Tests {
+            out: &self.graph.out,
+            search: &mut self.asked,
+            trail: &trail,
+        };
         if tests.failing_start(query.alpha, shortest).is_some() || tests.stretch(query.epsilon, true).is_some() {
             return None;
         }
         let plateau = ways.from[chain.last as usize].length - ways.from[chain.first as usize].length;
         let length = trail.length();
         let rank = 2 * length + shared - plateau;
-        Some(Route { via: ways.vertices[least], length, shared, plateau, rank, arcs: trail.arcs })
+        Some(Route {
+            via: ways.vertices[least],
+            length,
+            shared,
+            plateau,
+            rank,
+            arcs: trail.arcs,
+        })
     }
 
     /// The first verdict that holds of a vertex.
@@ -199,7 +225,11 @@ impl Planner {
         if !query.gamma.allows(shared, shortest) {
             return Verdict::Shared(shared);
         }
-        let mut tests = Tests { out: &self.graph.out, search: &mut self.asked, trail: &trail };
+        let mut tests = Tests {
+            out: &self.graph.out,
+            search: &mut self.asked,
+            trail: &trail,
+        };
         if let Some(pair) = tests.local(query, shortest) {
             return Verdict::Local(pair);
         }
@@ -213,13 +243,27 @@ impl Planner {
     fn name(&self, trail: &Trail) -> u32 {
         let has_arc = |step: Option<(u32, u32, u32)>, arc: u32| step.is_some_and(|row| row.2 == arc);
         let (mut first, mut last) = (trail.via_at, trail.via_at);
-        while first > 0 && has_arc(self.to.step(&self.graph.out, trail.vertices[first - 1]), trail.arcs[first - 1]) {
+        while first > 0
+            && has_arc(
+                self.to.step(&self.graph.out, trail.vertices[first - 1]),
+                trail.arcs[first - 1],
+            )
+        {
             first -= 1;
         }
-        while last < trail.arcs.len() && has_arc(self.from.step(&self.graph.into, trail.vertices[last + 1]), trail.arcs[last]) {
+        while last < trail.arcs.len()
+            && has_arc(
+                self.from.step(&self.graph.into, trail.vertices[last + 1]),
+                trail.arcs[last],
+            )
+        {
             last += 1;
         }
-        trail.vertices[first..=last].iter().copied().min().expect("the via is among them")
+        trail.vertices[first..=last]
+            .iter()
+            .copied()
+            .min()
+            .expect("the via is among them")
     }
 }
 
@@ -228,6 +272,10 @@ fn shared(trail: &Trail, optimum: &Trail) -> u64 {
     let mut numbers = trail.arcs.clone();
     numbers.sort_unstable();
     let lengths = optimum.sums.windows(2).map(|sums| sums[1] - sums[0]);
-    let both = optimum.arcs.iter().zip(lengths).filter(|(arc, _)| numbers.binary_search(arc).is_ok());
+    let both = optimum
+        .arcs
+        .iter()
+        .zip(lengths)
+        .filter(|(arc, _)| numbers.binary_search(arc).is_ok());
     both.map(|(_, length)| length).sum()
 }

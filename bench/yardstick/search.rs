@@ -69,8 +69,8 @@ impl Search {
         None
     }
 
-    /// The step towards the root: of the arcs that a shortest walk can have there the one of the least number. The side is
-    /// that of the arcs from `v` to the root, so the other one than the search's.
+    /// The step towards the root: of the arcs that a shortest walk can have there the one of the least number. The
+    /// side is that of the arcs from `v` to the root, so the other one than the search's.
     #[inline]
     pub fn step(&self, side: &Side, v: u32) -> Option<Row> {
         let label = self.labels[v as usize];

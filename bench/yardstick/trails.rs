@@ -1,5 +1,5 @@
-//! The tests of a path by questions: whether its short subpaths are shortest, and how far others are stretched. It is made
-//! of two shortest walks, so only subpaths round the vertex where these join can fail.
+//! The tests of a path by questions: whether its short subpaths are shortest, and how far others are stretched. It is
+//! made of two shortest walks, so only subpaths round the vertex where these join can fail.
 use crate::graph::Side;
 use crate::routes::{Query, Ratio};
 use crate::search::Search;
@@ -31,8 +31,8 @@ pub struct Pair {
     pub distance: u64,
 }
 
-/// The first places from `low` to before `high`, by the last places from `from` up to `to`. Of all its pairs that of `low`
-/// and `to` has the greatest excess over the distance.
+/// The first places from `low` to before `high`, by the last places from `from` up to `to`. Of all its pairs that of
+/// `low` and `to` has the greatest excess over the distance.
 #[derive(Clone, Copy)]
 struct Rectangle {
     low: usize,
@@ -49,7 +49,13 @@ impl Rectangle {
             (Rectangle { high: middle, ..self }, Rectangle { low: middle, ..self })
         } else {
             let middle = self.from + (self.to - self.from) / 2;
-            (Rectangle { from: middle + 1, ..self }, Rectangle { to: middle, ..self })
+            (
+                Rectangle {
+                    from: middle + 1,
+                    ..self
+                },
+                Rectangle { to: middle, ..self },
+            )
         }
     }
 }
@@ -65,12 +71,15 @@ impl Tests<'_> {
     fn distance(&mut self, first: usize, last: usize) -> u64 {
         let trail = self.trail;
         let (from, to) = (trail.vertices[first], trail.vertices[last]);
-        self.search.run(self.out, from, to, trail.between(first, last)).expect("the path leads there")
+        self.search
+            .run(self.out, from, to, trail.between(first, last))
+            .expect("the path leads there")
     }
 
     fn is_tested(&self, alpha: Ratio, shortest: u64, first: usize, last: usize) -> bool {
         let trail = self.trail;
-        alpha.allows(trail.between(first, last), shortest) || alpha.is_above(trail.between(first + 1, last - 1), shortest)
+        alpha.allows(trail.between(first, last), shortest)
+            || alpha.is_above(trail.between(first + 1, last - 1), shortest)
     }
 
     /// The distance between two places, where it is less than the subpath is long.
@@ -91,8 +100,9 @@ impl Tests<'_> {
         last
     }
 
-    /// The least first place with a subpath that fails local optimality, and the last place of those that are tested. A range of
-    /// first places is cleared by one question; it is doubled after each that does, and halved after each that doesn't.
+    /// The least first place with a subpath that fails local optimality, and the last place of those that are tested.
+    /// A range of first places is cleared by one question; it is doubled after each that does, and halved after each
+    /// that doesn't.
     pub fn failing_start(&mut self, alpha: Ratio, shortest: u64) -> Option<Pair> {
         let via_at = self.trail.via_at;
         if via_at + 1 == self.trail.vertices.len() {
@@ -123,7 +133,13 @@ impl Tests<'_> {
             let middle = clear + (pair.last - clear) / 2;
             match self.detour(pair.first, middle) {
                 None => clear = middle,
-                Some(distance) => pair = Pair { last: middle, distance, ..pair },
+                Some(distance) => {
+                    pair = Pair {
+                        last: middle,
+                        distance,
+                        ..pair
+                    }
+                }
             }
         }
         Some(pair)
@@ -135,13 +151,18 @@ impl Tests<'_> {
         if via_at == 0 || via_at + 1 == places {
             return None;
         }
-        let whole = Rectangle { low: 0, high: via_at, from: via_at + 1, to: places - 1 };
+        let whole = Rectangle {
+            low: 0,
+            high: via_at,
+            from: via_at + 1,
+            to: places - 1,
+        };
         let distance = self.distance(whole.low, whole.to);
         self.stretch_in(epsilon, any, whole, distance)
     }
 
-    /// The same of a rectangle, by the distance of its outermost pair. No subpath has a greater excess than that pair, and none
-    /// is shorter than the innermost one.
+    /// The same of a rectangle, by the distance of its outermost pair. No subpath has a greater excess than that
+    /// pair, and none is shorter than the innermost one.
     fn stretch_in(&mut self, epsilon: Ratio, any: bool, area: Rectangle, distance: u64) -> Option<Pair> {
         let excess = self.trail.between(area.low, area.to) - distance;
         let inner = self.trail.between(area.high - 1, area.from);
@@ -149,7 +170,11 @@ impl Tests<'_> {
             return None;
         }
         if area.high - area.low == 1 && area.from == area.to {
-            return Some(Pair { first: area.low, last: area.to, distance });
+            return Some(Pair {
+                first: area.low,
+                last: area.to,
+                distance,
+            });
         }
         let (outer, other) = area.halves();
         let found = self.stretch_in(epsilon, any, outer, distance);
@@ -158,6 +183,9 @@ impl Tests<'_> {
         }
         let distance = self.distance(other.low, other.to);
         let next = self.stretch_in(epsilon, any, other, distance);
-        [found, next].into_iter().flatten().min_by_key(|pair| (pair.first, pair.last))
+        [found, next]
+            .into_iter()
+            .flatten()
+            .min_by_key(|pair| (pair.first, pair.last))
     }
 }

@@ -1,5 +1,5 @@
-//! The ways of the vertices near a query to its two ends: what each shares with the optimum, which vertices have one path,
-//! and which paths are refused by the two trees alone.
+//! The ways of the vertices near a query to its two ends: what each shares with the optimum, which vertices have one
+//! path, and which paths are refused by the two trees alone.
 use crate::graph::Side;
 use crate::routes::Query;
 use crate::search::Search;
@@ -9,8 +9,8 @@ const NO_PLACE: u32 = u32::MAX;
 /// How many arcs apart the places are that are tried on one side of a path.
 const STEPS: [usize; 7] = [1, 2, 4, 8, 16, 32, 64];
 
-/// The way of a vertex to a root: its first arc (0 at the root) and the place of the next vertex, a jump to one farther on,
-/// how many arcs it has, how long it is, and the length that it shares with the optimum.
+/// The way of a vertex to a root: its first arc (0 at the root) and the place of the next vertex, a jump to one
+/// farther on, how many arcs it has, how long it is, and the length that it shares with the optimum.
 #[derive(Clone, Copy)]
 pub struct Way {
     pub arc: u32,
@@ -21,7 +21,14 @@ pub struct Way {
     pub shared: u64,
 }
 
-const NO_WAY: Way = Way { arc: 0, parent: 0, jump: 0, depth: 0, length: 0, shared: 0 };
+const NO_WAY: Way = Way {
+    arc: 0,
+    parent: 0,
+    jump: 0,
+    depth: 0,
+    length: 0,
+    shared: 0,
+};
 
 /// The vertices whose path is within the bound, by places, with their ways to the source and to the target.
 pub struct Ways {
@@ -83,21 +90,32 @@ impl Ways {
             }
             let length = search.labels[v as usize];
             ways[place as usize] = match search.step(side, v) {
-                None => Way { parent: place, jump: place, ..NO_WAY },
+                None => Way {
+                    parent: place,
+                    jump: place,
+                    ..NO_WAY
+                },
                 Some((next, step, arc)) => {
                     let parent = self.place_of[next as usize];
                     let head = if is_from { place } else { parent };
                     let is_shared = self.optimum_into[head as usize] == arc;
                     let above = ways[parent as usize];
                     let shared = above.shared + if is_shared { u64::from(step) } else { 0 };
-                    Way { arc, parent, jump: jump_over(ways, parent), depth: above.depth + 1, length, shared }
+                    Way {
+                        arc,
+                        parent,
+                        jump: jump_over(ways, parent),
+                        depth: above.depth + 1,
+                        length,
+                        shared,
+                    }
                 }
             };
         }
     }
 
-    /// The chains of all places. One goes on by an arc that both the tail's way to the target and the head's way to the
-    /// source have.
+    /// The chains of all places. One goes on by an arc that both the tail's way to the target and the head's way to
+    /// the source have.
     pub fn chains(&self) -> impl Iterator<Item = Chain> + '_ {
         let is_first = move |&first: &u32| {
             let way = self.from[first as usize];
@@ -130,7 +148,11 @@ fn jump_over(ways: &[Way], parent: u32) -> u32 {
     let above = ways[parent as usize];
     let middle = ways[above.jump as usize];
     let far = ways[middle.jump as usize];
-    if above.depth - middle.depth == middle.depth - far.depth { middle.jump } else { parent }
+    if above.depth - middle.depth == middle.depth - far.depth {
+        middle.jump
+    } else {
+        parent
+    }
 }
 
 /// Where two ways meet.
@@ -139,17 +161,26 @@ fn met(ways: &[Way], a: u32, b: u32) -> u32 {
     let (mut low, mut high) = if depth(a) > depth(b) { (a, b) } else { (b, a) };
     while depth(low) > depth(high) {
         let way = ways[low as usize];
-        low = if depth(way.jump) >= depth(high) { way.jump } else { way.parent };
+        low = if depth(way.jump) >= depth(high) {
+            way.jump
+        } else {
+            way.parent
+        };
     }
     while low != high {
         let (one, other) = (ways[low as usize], ways[high as usize]);
-        (low, high) = if one.jump == other.jump { (one.parent, other.parent) } else { (one.jump, other.jump) };
+        (low, high) = if one.jump == other.jump {
+            (one.parent, other.parent)
+        } else {
+            (one.jump, other.jump)
+        };
     }
     low
 }
 
-/// A subpath that begins on the way of `w` in the own tree, and ends at some place `x` of its way in the other one, has to be
-/// shortest and isn't, or is stretched too far: it is compared with the own way of `x`, from where the two ways meet.
+/// A subpath that begins on the way of `w` in the own tree, and ends at some place `x` of its way in the other one,
+/// has to be shortest and isn't, or is stretched too far: it is compared with the own way of `x`, from where the two
+/// ways meet.
 fn has_detour(own: &[Way], other: &[Way], w: u32, query: &Query, shortest: u64) -> bool {
     let mut x = w;
     for steps in STEPS {
