@@ -31,7 +31,7 @@ PEAK = (
 def build_yardstick():
     path = program.out_file("yardstick")
     source = os.path.join(program.BENCH, "yardstick", "main.rs")
-    program.run(["rustc", "-O", "-C", "target-cpu=x86-64-v2", "-o", path, source], check=True)
+    program.run(["rustc", "--edition", "2021", "-O", "-C", "target-cpu=x86-64-v2", "-o", path, source], check=True)
     return path
 
 

@@ -1,16 +1,18 @@
 #!/usr/bin/env python3
-"""Measures `route` lines on whole networks, beside a plain program of the same job where one is at hand.
+"""Measures `route` lines, or those of another word, on whole networks, beside a plain program of the same job: that of
+bench/yardstick, which it builds with rustc, or one that is named.
 
 A graph is a file, or `grid:W:H` (made by `road make 7 W H`), or `road:SIDE` (bench/network.py 1 SIDE). Each round runs
-`answer` over the graph with random pairs and without a request, and takes the difference; the plain program, which takes the
-same words, is run in turn, and the bytes of both are compared. With a rank the targets are near: from each random source the
-2^K-th vertex in the order of distance. With --before N so many more pairs are answered first, and not counted: by then the
-server may have built its hierarchy. Times are means over the pairs, of the quickest round; the spread is the slowest round's
-by the quickest. Memory is the peak of the resident set.
+`answer` over the graph with random pairs and without a request, and takes the difference; the plain program, which takes
+the same words, is run in turn, and the bytes of both are compared. `why` lines ask for a third random vertex. With a rank
+the targets are near: from each random source the 2^K-th vertex in the order of distance. With --before N so many more pairs
+are answered first, and not counted: by then the server may have built its hierarchy. Times are means over the pairs, of the
+quickest round; the spread is the slowest round's by the quickest. Memory is the peak of the resident set.
 """
 import array
 import heapq
 import os
+import random
 import sys
 import time
 
@@ -65,13 +67,17 @@ def settled(first, steps, source, count):
     return last
 
 
-def requests_of(path, pairs, rank):
-    text = drawing.requests("route", 5, pairs, figures.vertices_of(path))
-    if rank is None:
-        return text
-    first, steps = arcs_of(path)
-    sources = [int(line.split()[1]) for line in text.splitlines()]
-    return "".join("route %d %d\n" % (source, settled(first, steps, source, 2**rank)) for source in sources).encode()
+def requests_of(path, word, pairs, rank):
+    vertices = figures.vertices_of(path)
+    ends = [line.split()[1:] for line in drawing.requests(word, 5, pairs, vertices).decode().splitlines()]
+    if rank is not None:
+        first, steps = arcs_of(path)
+        ends = [(source, settled(first, steps, int(source), 2**rank)) for source, _target in ends]
+    lines = ["%s %s %s" % (word, *pair) for pair in ends]
+    if word == "why":
+        chance = random.Random(6)
+        lines = ["%s %d" % (line, chance.randint(1, vertices)) for line in lines]
+    return "".join(line + "\n" for line in lines).encode()
 
 
 def run(words, text):
@@ -94,28 +100,27 @@ def milliseconds(words, text, pairs, rounds):
 def main():
     words = program.parser(__doc__)
     words.add_argument("graphs", nargs="*", default=USUAL)
-    words.add_argument("--plain", help="a program that takes the same words")
+    words.add_argument("--plain", help="a program that takes the same words, in place of the yardstick")
+    words.add_argument("--word", choices=["route", "why", "optimum"], default="route")
     words.add_argument("--pairs", type=int, default=20)
     words.add_argument("--rounds", type=int, default=3)
     words.add_argument("--rank", type=int, help="targets that are the 2^RANK-th vertex from their source")
     words.add_argument("--before", type=int, default=0, help="so many pairs are answered first, and not counted")
     given = words.parse_args()
+    plain = given.plain or figures.build_yardstick()
     print("| graph | vertices | road, ms | spread | plain, ms | ratio | memory, MB |")
     print("|---|---|---|---|---|---|---|")
     for name in given.graphs:
         path = graph_file(name)
-        text = requests_of(path, given.before + given.pairs, given.rank)
+        text = requests_of(path, given.word, given.before + given.pairs, given.rank)
         times, output = milliseconds([program.built(), "answer", path], text, given.pairs, given.rounds)
         memory = figures.peak([program.built(), "answer", path], text)
         row = [os.path.basename(name), figures.vertices_of(path), "%.2f" % min(times), "%.2f" % (max(times) / min(times))]
-        if given.plain:
-            others, wanted = milliseconds([given.plain, "answer", path], text, given.pairs, given.rounds)
-            if wanted != output:
-                print("%s: another reply than the plain program's" % name)
-                sys.exit(1)
-            row += ["%.2f" % min(others), "%.1f" % (min(times) / min(others))]
-        else:
-            row += ["", ""]
+        others, wanted = milliseconds([plain, "answer", path], text, given.pairs, given.rounds)
+        if wanted != output:
+            print("%s: another reply than the plain program's" % name)
+            sys.exit(1)
+        row += ["%.2f" % min(others), "%.1f" % (min(times) / min(others))]
         print("| %s | %d | %s | %s | %s | %s | %d |" % (*row, memory), flush=True)
 
 
