@@ -12,3 +12,4 @@ pub mod ViaWalk
 pub mod Alternatives
 pub mod Answers
 pub mod Verdicts
+pub mod Versions

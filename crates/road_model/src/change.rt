@@ -1,4 +1,8 @@
+ghost use Rattle.std.specs.Prelude.{◌≡◌};
+ghost use Rattle.road_model.specs.declared.change.ChangeFault.TheVariants.{NoMemory};
+
 use crate::{ArcNo, Items};
+use std::alloc::{AllocError, AllocFailed};
 
 /// A new length for an arc.
 #[derive(Clone, Copy, Debug, PartialEq, Eq)]
@@ -20,4 +24,20 @@ pub enum ChangeFault {
     /// The newest version is the last that there may be.
     Full,
     NoMemory,
+}
+
+impl From<AllocError> for ChangeFault {
+    ghost from_gives = { λ _ e. e ≡ NoMemory };
+
+    fn from(_error: AllocError) -> ChangeFault {
+        ChangeFault::NoMemory
+    }
+}
+
+impl<T: Drop> From<AllocFailed<T>> for ChangeFault {
+    ghost from_gives = { λ _ e. e ≡ NoMemory };
+
+    fn from(_error: AllocFailed<T>) -> ChangeFault {
+        ChangeFault::NoMemory
+    }
 }
