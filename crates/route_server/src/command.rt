@@ -26,10 +26,10 @@ use std::thread::Threads;
 /// from the input, and writes to the output.
 ///
 /// `check` and `print` take 16 bytes an arc, and 128 KB while they read; `make` takes 16 bytes an arc of its grid.
-/// `answer` and `survey` take 40 bytes an arc and 96 bytes a vertex: 8 for the graph, and 88 for searches and plans,
+/// `answer` and `survey` take 40 bytes an arc and 128 bytes a vertex: 8 for the graph, and 120 for searches and plans,
 /// which are kept from one query to the next with what the largest searches so far needed. Besides, `answer` keeps
-/// 128 KB for lines, the longest reply, and once distances were asked often enough a hierarchy in place of 8 of the 88
-/// bytes.
+/// 128 KB for lines, the longest reply, and once distances were asked often enough a hierarchy in place of 8 of the
+/// 120 bytes.
 pub fn run<R: Threads + Sync, F: Shelf, S: Source, K: Sink>(
     _rt: &R,
     alloc: Global,

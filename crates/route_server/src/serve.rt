@@ -86,8 +86,8 @@ fn serve_one<O: Oracle, K: Sink>(
 /// Answers the lines of the input until one ends the run, or the input ends or is too long, or a read or a write fails,
 /// or there is no memory to begin with or for the text of a reply.
 ///
-/// It keeps 128 KB for lines, 88 bytes a vertex for searches and plans, the longest reply, and once distances were
-/// asked often enough a hierarchy in place of 8 of the 88 bytes (`AdaptiveOracle`).
+/// It keeps 128 KB for lines, 120 bytes a vertex for searches and plans, the longest reply, and once distances were
+/// asked often enough a hierarchy in place of 8 of the 120 bytes (`AdaptiveOracle`).
 pub fn serve<S: Source, K: Sink>(
     alloc: Global,
     star: &Star,
