@@ -275,8 +275,9 @@ class VersionScript(Script):
 
     def ask_all(self):
         asks = {
-            self.ask_again: 9, self.ask_length: 5, self.ask_route: 4, self.ask_publish: 4, self.ask_why: 2,
-            self.ask_optimum: 2, self.ask_version: 1, self.ask_forged: 1, self.ask_nothing: 1, self.ask_many_keys: 1,
+            self.ask_again: 9, self.ask_length: 5, self.ask_route: 4, self.ask_why: 2, self.ask_optimum: 2,
+            self.ask_version: 1, self.ask_forged: 1, self.ask_nothing: 1, self.ask_many_keys: 1,
+            self.ask_publish: self.chance.choice([1, 4, 4, 20]),
         }
         count = self.chance.randint(10, self.MOST_LINES)
         while len(self.lines) < count:
