@@ -69,7 +69,8 @@ def demand_full(path, seconds):
             replied = process.stdout.read(len(reply))
             if replied != reply:
                 process.kill()
-                sys.exit("line %d of bench/out/full.requests, %r: expected %r, replied %r" % (number, line, reply, replied))
+                place = "line %d of bench/out/full.requests, %r" % (number, line)
+                sys.exit("%s: expected %r, replied %r" % (place, reply, replied))
         rest = process.stdout.read()
         timer.cancel()
     if rest or process.returncode != 0:

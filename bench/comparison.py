@@ -1,4 +1,4 @@
-"""Compares `answer` with the definitions on one graph and one text of request lines, and counts what was asked and replied."""
+"""Compares `answer` with the definitions on one graph and one text of request lines, and counts lines and replies."""
 import collections
 import sys
 

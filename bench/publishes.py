@@ -1,16 +1,16 @@
 #!/usr/bin/env python3
 """Measures publishes of changed lengths, pages of kept and of fresh plans, and the memory of versions, on whole networks.
 
-A graph is named as for routes.py. One run of `answer` gets its lines one by one through a pipe: the time of a line is from
-its writing to the end of its reply, and each figure is the mean over many lines, which may stand among others. First --before
-random pairs are answered, and not counted: by then the server may have built its hierarchy.
+A graph is named as for routes.py. One run of `answer` gets its lines one by one through a pipe: the time of a line is
+from its writing to the end of its reply, and each figure is the mean over many lines, which may stand among others. First
+--before random pairs are answered, and not counted: by then the server may have built its hierarchy.
 
 publish of N: a version with N random arcs changed, by up to a tenth of their length; the staging isn't counted.
-route: the first page of a random pair as the first line after such a version of one arc (first), and of another pair as the
-second line (fresh).
+route: the first page of a random pair as the first line after such a version of one arc (first), and of another pair as
+the second line (fresh).
 next: the same page as that of the second line again, by a cursor, from the plan that is kept.
-memory: the resident set after the publishes and pages, and after each of some further versions of 100 changed arcs, with a
-page of each.
+memory: the resident set after the publishes and pages, and after each of some further versions of 100 changed arcs, with
+a page of each.
 """
 import os
 import random

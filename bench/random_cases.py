@@ -268,8 +268,8 @@ class Script:
 
 
 class VersionScript(Script):
-    """Request lines over the versions of a graph: changes are staged and published among them, more keys are asked for than
-    are kept, and cursors are used again of kept keys, of dropped ones, and of versions that are none."""
+    """Request lines over the versions of a graph: changes are staged and published among them, more keys are asked for
+    than are kept, and cursors are used again of kept keys, of dropped ones, and of versions that are none."""
 
     MOST_LINES, MOST_VERSIONS = 120, 30
 
@@ -324,7 +324,8 @@ class VersionScript(Script):
             arc = self.chance.randint(1, max(len(arcs), 1))
             if self.run.staged and self.often(0.3):
                 arc = self.run.staged[-1][0]
-            length = self.chance.choice(arcs)[2] if arcs and self.often(0.5) else self.chance.randint(1, 12)
+            is_old = arcs and self.often(0.5)
+            length = self.chance.choice(arcs)[2] if is_old else self.chance.randint(1, 12)
             if self.slips() or self.often(0.03):
                 arc = self.chance.choice([0, len(arcs), len(arcs) + 1, (1 << 32) + arc, *HUGE])
             if self.slips() or self.often(0.05):

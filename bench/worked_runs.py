@@ -1,7 +1,7 @@
-"""Runs of `answer` whose replies were written by hand from the definitions, to hold both the plain script and the program to.
+"""Runs of `answer` whose replies were written by hand from the definitions: both plain.py and the program have to give them.
 
-A line after `>` is a request, and the lines after it are its reply. Where one line is one of several that get the same reply,
-they stand one after another, each with its `>`, and the reply after the last of them is the reply to each.
+A line after `>` is a request, and the lines after it are its reply. Where several requests stand one after another, the
+reply after the last of them is the reply to each.
 """
 import re
 
