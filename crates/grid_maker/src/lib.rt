@@ -13,6 +13,8 @@ use crate::streets::Streets;
 use rand_xoshiro::SplitMix64;
 use road_model::{ArcRows, GraphFile};
 use std::alloc::{AllocError, Global};
+use std::error::Error;
+use std::fmt;
 
 /// Why no grid was made.
 #[derive(Clone, Copy, Debug, PartialEq, Eq)]
@@ -22,6 +24,22 @@ pub enum MakeFault {
     /// Memory was refused.
     NoMemory,
 }
+
+impl fmt::Display for MakeFault {
+    ghost use Rattle.std.specs.Prelude.{Some};
+    ghost use Rattle.grid_maker.specs.Messages.{fault_text};
+
+    ghost output = { λ fault. Some (fault_text fault) };
+
+    fn fmt<W: fmt::Write>(&self, f: &mut fmt::Formatter<W>) -> fmt::Result {
+        f.write_str(match self {
+            MakeFault::Size => "a side is outside 1 to 4096",
+            MakeFault::NoMemory => "out of memory",
+        })
+    }
+}
+
+impl Error for MakeFault {}
 
 impl From<AllocError> for MakeFault {
     ghost from_gives = { λ _ e. e ≡ NoMemory };
