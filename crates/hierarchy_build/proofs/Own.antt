@@ -398,5 +398,7 @@ IsOwn-built g h sound few b =
     record {
       few = omega arith;
       graph = IsGraph-own g h sound facts;
+      short = own_rows h (λ (r : ArcRow). r.length < no_link) facts.up.short facts.down.short (λ a b x link. link.real) (λ a b x link. link.real);
+      near = DistsBelow-copied g (own_graph h) (slice_index h.shape.order) (slice_index h.shape.rank) (links_of (length h.shape.order) h.up) (links_of (length h.shape.order) h.down) (Copies-own g h sound b.below facts);
       hierarchy = IsHierarchy-own g h sound b;
     }

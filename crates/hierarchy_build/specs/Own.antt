@@ -6,17 +6,20 @@
 --   rising_graph h         that of the links upwards
 --   falling_graph h        that of the links downwards, each turned round: its arcs lead from lower ranks to higher ones too
 --   own_graph h            the arcs of the rising graph, and then those of the falling graph as they lead downwards
---   IsOwn h                the own graph of h is a graph of fewer than 2^32 vertices, and h is a hierarchy of it
+--   IsOwn h                the own graph of h is a graph of fewer than 2^32 vertices whose lengths and distances are below
+--                          no_link, and h is a hierarchy of it
 --   AreAlong s l           links that lead along the runs of a shape, between ranks that have vertices
 --   Rises rank r           the arc leads from a lower rank to a higher one
 use Rattle.std.specs.Prelude.{◌+◌, ◌-◌, ◌^◌, ◌<◌, ◌++◌, ℕ, List, length, slice_index, map}
 use Rattle.std.specs.List.{flat_map, range_with_len}
 use Rattle.road_model.specs.declared.rows.ArcRow.{ArcRow}
-use Rattle.road_model.specs.Graph.{Graph, IsGraph, rows_of, reversed}
+use Rattle.road_model.specs.Graph.{Graph, IsGraph, LengthsBelow, rows_of, reversed}
+use Rattle.road_model.specs.Dist.{DistsBelow}
 use Rattle.hierarchy_build.specs.declared.links.Links.{Links}
 use Rattle.hierarchy_build.specs.declared.shape.Shape.{Shape}
 use Rattle.hierarchy_build.specs.Parts.{Parts}
 use Rattle.hierarchy_build.specs.Runs.{IsShape, IsRanked}
+use Rattle.hierarchy_build.specs.Lengths.{no_link}
 use Rattle.hierarchy_build.specs.Links.{AreLinks}
 use Rattle.hierarchy_build.specs.Hierarchy.{IsHierarchy}
 
@@ -47,6 +50,8 @@ own_graph h = record {
 pub record IsOwn (h : Parts) : Type 0 where
   pub few : length h.shape.order < 2 ^ 32
   pub graph : IsGraph (own_graph h)
+  pub short : LengthsBelow (own_graph h) no_link
+  pub near : DistsBelow (own_graph h) no_link
   pub hierarchy : IsHierarchy (own_graph h) h
 
 pub record AreAlong (s : Shape) (l : Links) : Type 0 where
