@@ -8,9 +8,9 @@ ghost use Rattle.tree_tests.specs.Never.{IsNever};
 
 use crate::ancestors::{Ancestor, NO_ANCESTOR, ahead, fill, met};
 use crate::sides::{Side, label, opposite};
-use stamped_table::Table;
 use canonical_trees::TreePair;
 use road_model::{NoMemory, Query, Vertex};
+use stamped_table::Table;
 use std::alloc::Global;
 use std::marker::Model;
 
