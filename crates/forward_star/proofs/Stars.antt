@@ -1,19 +1,19 @@
 -- What a star reads of its topology and lengths, and what a change of a length makes of it.
-use Rattle.std.proofs.Common.{◌≡◌, ◌+◌, ◌-◌, ◌<◌, ◌≤◌, ℕ, List, [], ◌∷◌, length, map, take, drop, get_or, set, Option, Some, None, slice_get, All, refl, sym, ap, ◌∙◌, subst, arith}
+use Rattle.std.proofs.Common.{◌≡◌, ◌-◌, ◌<◌, ◌≤◌, ℕ, List, length, map, get_or, set, Some, None, slice_get, All, sym, ap, ◌∙◌, subst, arith}
 use Rattle.std.proofs.lemmas.List.{get_or_default, length-set, length-map}
 use Rattle.std.proofs.lemmas.List.Elements.{All-map, All-weaker}
 use Rattle.road_model.specs.declared.rows.ArcRow.{ArcRow}
 use Rattle.road_model.specs.declared.change.Change.{Change}
-use Rattle.road_model.specs.Graph.{Graph, arc_at, arc_count, rows_of, reversed, step_at, steps_from, IsArc, IsGraph}
-use Rattle.road_model.specs.Changes.{after, changed, fault_of, change_fault, with_row}
+use Rattle.road_model.specs.Graph.{Graph, arc_count, rows_of, reversed, step_at, steps_from, IsArc, IsGraph}
+use Rattle.road_model.specs.Changes.{changed, fault_of}
 use Rattle.road_model.specs.File.{IsWithinLimits}
 use Rattle.forward_star.specs.declared.lengths.Lengths.{Lengths}
 use Rattle.forward_star.specs.declared.side.Record.{Record}
 use Rattle.forward_star.specs.declared.topology.Topology.{Topology}
-use Rattle.forward_star.specs.Layout.{place_at, IsLaid, IsMeasured, HasRuns, HasNumbers, run_at, arcs_of, graph_of, IsStar}
+use Rattle.forward_star.specs.Layout.{place_at, IsLaid, IsMeasured, run_at, arcs_of, graph_of, IsStar}
 use Rattle.forward_star.proofs.Arcs.{length-arcs_of, arcs_of_rows, map-turned_arcs, slice_get-arcs_of, with_row-arcs_of, IsMeasured-set, IsWithinLimits-set, tails_inside, heads_inside}
-use Rattle.forward_star.proofs.Changed.{IsSound, first_sound, fault_of-count, sound_change}
-use Rattle.forward_star.proofs.Runs.{run_at-laid, HasRuns-laid, HasNumbers-laid}
+use Rattle.forward_star.proofs.Changed.{IsSound, sound_change}
+use Rattle.forward_star.proofs.Runs.{run_at-laid}
 
 pub count_of_star : (t : Topology) (l : Lengths) → IsStar t l → arc_count (graph_of t l) ≡ length t.tails.items
 count_of_star t l star = length-arcs_of t.tails.items t.heads.items l.by_number.items star.heads star.numbers

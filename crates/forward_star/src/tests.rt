@@ -1,7 +1,5 @@
 use super::*;
-use road_model::{
-    ArcNo, ArcRow, ArcRows, Change, ChangeFault, GraphFile, Network, Step, Vertex,
-};
+use road_model::{ArcNo, ArcRow, ArcRows, Change, ChangeFault, GraphFile, Network, Step, Vertex};
 use std::alloc::Global;
 use std::test::Fail;
 
@@ -93,7 +91,12 @@ fn change(arc: u32, length: u64) -> Change {
 fn changes_lengths_and_leaves_the_star_as_it_was(rt: HostRuntime) -> Result<(), Fail> {
     let arcs = [(1, 2, 10), (3, 2, 5), (1, 3, 11), (1, 1, 6)];
     let star = Star::build(rt.alloc(), graph_of(rt.alloc(), 3, &arcs)?)?;
-    let changes = [change(3, 4), change(4, 1), change(2, 4294967295), change(3, 7)];
+    let changes = [
+        change(3, 4),
+        change(4, 1),
+        change(2, 4294967295),
+        change(3, 7),
+    ];
     let changed = star.with(rt.alloc(), &changes)?;
     let again = changed.with(rt.alloc(), &[change(1, 2)])?;
     let out = [
@@ -101,7 +104,13 @@ fn changes_lengths_and_leaves_the_star_as_it_was(rt: HostRuntime) -> Result<(), 
         (1, 1, step(3, 3, 11), step(3, 3, 7), step(3, 3, 7)),
         (1, 2, step(4, 1, 6), step(4, 1, 1), step(4, 1, 1)),
         (1, 3, None, None, None),
-        (3, 0, step(2, 2, 5), step(2, 2, 4294967295), step(2, 2, 4294967295)),
+        (
+            3,
+            0,
+            step(2, 2, 5),
+            step(2, 2, 4294967295),
+            step(2, 2, 4294967295),
+        ),
     ];
     for (v, i, before, after, last) in out {
         assert_eq!(rt; star.out(Vertex(v), i), before);
@@ -111,7 +120,13 @@ fn changes_lengths_and_leaves_the_star_as_it_was(rt: HostRuntime) -> Result<(), 
     let into = [
         (1, 0, step(4, 1, 6), step(4, 1, 1), step(4, 1, 1)),
         (2, 0, step(1, 1, 10), step(1, 1, 10), step(1, 1, 2)),
-        (2, 1, step(2, 3, 5), step(2, 3, 4294967295), step(2, 3, 4294967295)),
+        (
+            2,
+            1,
+            step(2, 3, 5),
+            step(2, 3, 4294967295),
+            step(2, 3, 4294967295),
+        ),
         (3, 0, step(3, 1, 11), step(3, 1, 7), step(3, 1, 7)),
     ];
     for (v, i, before, after, last) in into {
@@ -131,18 +146,22 @@ fn changes_lengths_and_leaves_the_star_as_it_was(rt: HostRuntime) -> Result<(), 
 
 #[test]
 fn refuses_changes_by_the_first_that_fails(rt: HostRuntime) -> Result<(), Fail> {
-    let star = Star::build(rt.alloc(), graph_of(rt.alloc(), 2, &[(1, 2, 5), (2, 1, 6)])?)?;
+    let star = Star::build(
+        rt.alloc(),
+        graph_of(rt.alloc(), 2, &[(1, 2, 5), (2, 1, 6)])?,
+    )?;
     let rows = [
-        ([change(1, 1), change(2, 4294967295)], None),
-        ([change(0, 1), change(1, 1)], Some(ChangeFault::ArcRange)),
-        ([change(1, 1), change(3, 1)], Some(ChangeFault::ArcRange)),
-        ([change(2, 0), change(1, 1)], Some(ChangeFault::LengthRange)),
-        ([change(1, 1), change(1, 4294967296)], Some(ChangeFault::LengthRange)),
-        ([change(3, 0), change(1, 1)], Some(ChangeFault::ArcRange)),
-        ([change(1, 0), change(3, 1)], Some(ChangeFault::LengthRange)),
-        ([change(3, 1), change(1, 0)], Some(ChangeFault::ArcRange)),
+        (1, 1, 2, 4294967295, None),
+        (0, 1, 1, 1, Some(ChangeFault::ArcRange)),
+        (1, 1, 3, 1, Some(ChangeFault::ArcRange)),
+        (2, 0, 1, 1, Some(ChangeFault::LengthRange)),
+        (1, 1, 1, 4294967296, Some(ChangeFault::LengthRange)),
+        (3, 0, 1, 1, Some(ChangeFault::ArcRange)),
+        (1, 0, 3, 1, Some(ChangeFault::LengthRange)),
+        (3, 1, 1, 0, Some(ChangeFault::ArcRange)),
     ];
-    for (changes, wanted) in rows {
+    for (first, length, second, other, wanted) in rows {
+        let changes = [change(first, length), change(second, other)];
         let found = star.with(rt.alloc(), &changes).err();
         assert_eq!(rt; found, wanted);
     }

@@ -1,10 +1,8 @@
-use Rattle.std.proofs.Common.{◌≡◌, ◌+◌, ◌-◌, ◌<◌, ◌≤◌, ℕ, List, length, set, vec_len, arith, refl, ap, sym, ◌∙◌, subst}
-use Rattle.road_model.specs.Graph.{arc_count}
-use Rattle.forward_star.specs.Layout.{place_at, HasNumbers, graph_of}
+use Rattle.std.proofs.Common.{◌≡◌, ◌-◌, ◌<◌, ℕ, List, length, set, vec_len, arith, ap, sym, ◌∙◌, subst}
+use Rattle.forward_star.specs.Layout.{place_at, HasNumbers}
 use Rattle.forward_star.proofs.Arcs.{tails_inside, heads_inside}
 use Rattle.forward_star.proofs.Counts.{place_at-inside}
 use Rattle.forward_star.proofs.Runs.{HasNumbers-laid}
-use Rattle.forward_star.proofs.Changed.{IsSound, sound_change}
 use Rattle.forward_star.proofs.Stars.{IsAmong, among_arcs, IsStar-set, graph_of-set}
 use Rattle.forward_star.proofs.lengths.Lengths.set.Goals as goal
 

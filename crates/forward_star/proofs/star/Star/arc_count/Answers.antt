@@ -1,4 +1,4 @@
-use Rattle.std.proofs.Common.{◌≡◌, length, sym, ap, ◌∙◌, arith}
+use Rattle.std.proofs.Common.{◌≡◌, length, ap, arith}
 use Rattle.road_model.specs.Graph.{Graph, arc_count}
 use Rattle.forward_star.specs.declared.topology.Topology.{Topology}
 use Rattle.forward_star.specs.Layout.{graph_of}
