@@ -107,7 +107,7 @@ fn tree_from_in<'a>(
         (λ tree. tree ≡ record { graph = star.now; root = s; radius = radius }) }
     ensures tracked { IsTracked memory.new.labels.items memory.new.touched.items }
 {
-    let _limits = star.graph();
+    star.within_limits();
     let ball = ball_in(alloc, memory, star, s, searched(radius))?;
     let steps = emptied(alloc, steps)?;
     Ok(FromTree {
@@ -151,7 +151,7 @@ fn tree_to_in<'a>(
         (λ tree. tree ≡ record { graph = star.now; root = t; radius = radius }) }
     ensures tracked { IsTracked memory.new.labels.items memory.new.touched.items }
 {
-    let _limits = star.graph();
+    star.within_limits();
     let ball = ball_in(alloc, memory, &star.reversed(), t, searched(radius))?;
     let steps = emptied(alloc, steps)?;
     Ok(ToTree {
@@ -270,7 +270,7 @@ impl FromTree<'_> {
         ensures { self.new ≡ self.old }
     {
         let star = self.star;
-        let places = star.graph().vertices() as usize + 1;
+        let places = star.vertices() as usize + 1;
         self.steps.empty(places)?;
         keep_near(
             &star.reversed(),
@@ -348,7 +348,7 @@ impl ToTree<'_> {
         ensures { self.new ≡ self.old }
     {
         let star = self.star;
-        let places = star.graph().vertices() as usize + 1;
+        let places = star.vertices() as usize + 1;
         self.steps.empty(places)?;
         keep_near(
             star,
