@@ -332,8 +332,8 @@ fn shows_its_roots_and_steps(rt: HostRuntime) -> Result<(), Fail> {
         .from_step(Vertex(3))
         .map_or(0, |step| step.head.number());
     assert_eq!(rt; before, 1);
-    let behind = pair.to_step(Vertex(3)).map_or(0, |step| step.head.number());
-    assert_eq!(rt; behind, 4);
+    let beyond = pair.to_step(Vertex(3)).map_or(0, |step| step.head.number());
+    assert_eq!(rt; beyond, 4);
     Ok(())
 }
 

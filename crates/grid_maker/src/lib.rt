@@ -5,7 +5,7 @@ mod sides;
 mod streets;
 
 ghost use Rattle.std.specs.Prelude.{◌≡◌, ◌↔◌, IfOk, IsErrOf};
-ghost use Rattle.grid_maker.specs.Grid.{IsSide, grid, grid_ends, state_behind};
+ghost use Rattle.grid_maker.specs.Grid.{IsSide, grid, grid_ends, state_after};
 ghost use Rattle.grid_maker.specs.declared.MakeFault.TheVariants.{NoMemory};
 
 use crate::sides::Sides;
@@ -64,7 +64,7 @@ pub fn make(
 ) -> Result<(GraphFile, SplitMix64), MakeFault>
     ensures size { IsErrOf result MakeFault.Size ↔ (IsSide width × IsSide height → ⊥) }
     ensures grid { IfOk result (λ made. made.0 ≡ grid seed width height) }
-    ensures behind { IfOk result (λ made. made.1 ≡ state_behind seed (grid_ends width height)) }
+    ensures beyond { IfOk result (λ made. made.1 ≡ state_after seed (grid_ends width height)) }
 {
     let Some(sides) = Sides::new(width, height) else {
         return Err(MakeFault::Size);

@@ -19,7 +19,7 @@ fn drawn(words: &mut SplitMix64, vertices: u32) -> Vertex
     requires { 1 ≤ vertices }
     ensures value { result ≡ drawn vertices words.old }
     ensures inside { IsVertex vertices result }
-    ensures behind { words.new ≡ step words.old }
+    ensures beyond { words.new ≡ step words.old }
 {
     Vertex(1 + (words.next_word() % u64::from(vertices)) as u32)
 }

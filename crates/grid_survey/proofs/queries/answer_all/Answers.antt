@@ -23,11 +23,11 @@ count-requires c =
 
 pub loop-query-preserved : goal.loop-query-preserved
 loop-query-preserved c =
-    let query = next_query c.args.star.now c.vertices-vertices.result c.loop-query.words c.drawn-from.new.words c.drawn-from.result c.drawn-to.result c.usual.result c.vertices-vertices.ensures.count c.drawn-from.ensures.value c.drawn-from.ensures.behind c.drawn-to.ensures.value c.usual.ensures in
+    let query = next_query c.args.star.now c.vertices-vertices.result c.loop-query.words c.drawn-from.new.words c.drawn-from.result c.drawn-to.result c.usual.result c.vertices-vertices.ensures.count c.drawn-from.ensures.value c.drawn-from.ensures.beyond c.drawn-to.ensures.value c.usual.ensures in
     record {
       counted =
           progress_more c.args.star.now c.args.words.now c.args.queries c.loop-query.words c.drawn-to.new.words (c.args.queries - c.loop-query._query) (c.args.queries - (c.loop-query._query + 1)) c.loop-query.summary c.count.new.self c.usual.result c.in_ok-answer.answer (omega arith)
-          (c.drawn-to.ensures.behind ∙ ap (λ (x : ℕ). step x) c.drawn-from.ensures.behind)
+          (c.drawn-to.ensures.beyond ∙ ap (λ (x : ℕ). step x) c.drawn-from.ensures.beyond)
           query c.loop-query.invariant.counted c.in_ok-answer.ensures.answer c.count.ensures;
       same = c.in_ok-answer.ensures.same ∙ c.loop-query.invariant.same;
     }
