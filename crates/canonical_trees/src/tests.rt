@@ -89,7 +89,7 @@ fn star_of(alloc: Global, name: Name) -> Result<Star, Fail> {
 fn is_vertex(star: &Star, v: u32) -> bool
     ensures { IsTrue result ↔ IsVertex star.now.vertices v }
 {
-    v >= 1 && v <= star.graph().vertices()
+    v >= 1 && v <= star.vertices()
 }
 
 // The arcs as a text, as "3 4 5".
@@ -182,7 +182,7 @@ fn finds_paths_through_vertices(rt: HostRuntime) -> Result<(), Fail> {
 
 // How many arcs the path through a vertex has, from 1 to the last one, by trees in a kept memory.
 fn kept(alloc: Global, memory: &mut TreeMemory, star: &Star, via: u32) -> Result<usize, Fail> {
-    let to = star.graph().vertices();
+    let to = star.vertices();
     if !is_vertex(star, 1) {
         return Err("no vertex to begin at".into());
     }
@@ -279,7 +279,7 @@ fn shows_labels_members_and_arcs(rt: HostRuntime) -> Result<(), Fail> {
 fn shows_its_roots_and_steps(rt: HostRuntime) -> Result<(), Fail> {
     let star = star_of(rt.alloc(), Name::A)?;
     let pair = halves(rt.alloc(), &star, 17)?;
-    assert_eq!(rt; pair.star().graph().vertices(), 6);
+    assert_eq!(rt; pair.star().vertices(), 6);
     assert_eq!(rt; pair.source().number(), 1);
     assert_eq!(rt; pair.target().number(), 6);
     let before = pair

@@ -99,7 +99,7 @@ fn tree_from_in<'a>(
         (λ tree. tree ≡ record { graph = star.now; root = s; radius = radius }) }
     ensures tracked { IsTracked memory.new.labels.items memory.new.touched.items }
 {
-    let _limits = star.graph();
+    star.within_limits();
     let ball = ball_in(alloc, memory, star, s, searched(radius))?;
     Ok(FromTree {
         star,
@@ -139,7 +139,7 @@ fn tree_to_in<'a>(
         (λ tree. tree ≡ record { graph = star.now; root = t; radius = radius }) }
     ensures tracked { IsTracked memory.new.labels.items memory.new.touched.items }
 {
-    let _limits = star.graph();
+    star.within_limits();
     let ball = ball_in(alloc, memory, &star.reversed(), t, searched(radius))?;
     Ok(ToTree {
         star,

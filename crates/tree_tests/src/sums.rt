@@ -174,7 +174,7 @@ impl<'a> SharedSums<'a> {
     ) -> Result<SharedSums<'a>, NoMemory>
         ensures { IfOk result (λ s. s ≡ record { trees = pair.now; optimum = optimum.now }) }
     {
-        let places = pair.star().graph().vertices() as usize + 1;
+        let places = pair.star().vertices() as usize + 1;
         tables.from.empty(places)?;
         tables.to.empty(places)?;
         let ascending = ascending(alloc, optimum.as_slice())?;
