@@ -43,6 +43,7 @@ fn lengths_of(alloc: Global, shape: &Shape, star: &Star) -> Result<Lengths, NoMe
     requires { IsShapeOf star.now shape.now }
     ensures { IfOk result (λ l. HasLengths star.now shape.now l.up l.down) }
 {
+    star.within_limits();
     let links = shape.head.len();
     let mut up = vec![in alloc; NO_LINK; links]?;
     let mut down = vec![in alloc; NO_LINK; links]?;
@@ -51,7 +52,7 @@ fn lengths_of(alloc: Global, shape: &Shape, star: &Star) -> Result<Lengths, NoMe
         shape.rank.as_slice(),
         shape.first.as_slice(),
         shape.head.as_slice(),
-        star.graph().arcs(),
+        star,
         &mut up,
         &mut down,
     );
@@ -97,7 +98,7 @@ pub fn customise(
     ensures shape { IfOk result (λ h. h.shape.value ≡ shape.value) }
 {
     // the ends of its arcs are vertices
-    let _limits = star.graph();
+    star.within_limits();
     let lengths = lengths_of(alloc, &shape, star)?;
     let best = thinned(alloc, &shape, &lengths)?;
     let up = keep(alloc, &shape, lengths.up, best.up)?;

@@ -95,7 +95,7 @@ impl<'a> AdaptiveOracle<'a> {
     pub fn new(alloc: Global, star: &'a Star) -> Result<AdaptiveOracle<'a>, NoMemory>
         ensures { IfOk result (λ o. o ≡ record { graph = star.now; asked = 0 }) }
     {
-        let _limits = star.graph();
+        star.within_limits();
         let plain = PlainOracle::new(alloc, star)?;
         Ok(AdaptiveOracle {
             alloc,

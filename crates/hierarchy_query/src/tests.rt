@@ -72,7 +72,7 @@ fn distances_of(
     wishes: &[u32],
     pairs: &[(u32, u32)],
 ) -> Result<Vec<Option<u64>>, Fail> {
-    let vertices = star.graph().vertices();
+    let vertices = star.vertices();
     let order = order_by(alloc, vertices, wishes)?;
     let hierarchy = contract(alloc, star, order)?;
     let mut oracle = HierarchyOracle::new(alloc, Arc::new(alloc, hierarchy)?)?;
@@ -123,7 +123,7 @@ fn vertices_of(alloc: Global, vertices: u32, numbers: &[u32]) -> Result<VertexLi
 
 // The distances from one vertex to others, in one call.
 fn listed(alloc: Global, star: &Star, from: u32, numbers: &[u32]) -> Result<DistanceList, Fail> {
-    let vertices = star.graph().vertices();
+    let vertices = star.vertices();
     if from == 0 || from > vertices {
         return Err("no such start".into());
     }
@@ -145,7 +145,7 @@ fn asked(
     requires { oracle.old.graph ≡ star.now }
     ensures { oracle.new.graph ≡ star.now }
 {
-    let vertices = star.graph().vertices();
+    let vertices = star.vertices();
     if from == 0 || from > vertices {
         return Err("no such start".into());
     }
