@@ -46,7 +46,7 @@ pub fn answer_all(
     let vertices = star.vertices();
     let mut summary = Summary {
         vertices,
-        arcs: star.graph().arcs().len() as u32,
+        arcs: star.arc_count(),
         queries,
         without_path: 0,
         routes: 0,

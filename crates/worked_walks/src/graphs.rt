@@ -101,7 +101,7 @@ pub fn walk_through(
 ) -> Result<Option<ViaWalk>, NoMemory>
     ensures { IfOk result (λ found. IfSome found (λ w. IsViaWalk star.now w.trail w.via_at)) }
 {
-    let _limits = star.graph();
+    star.within_limits();
     if !are_vertices(star, s, v, t) {
         return Ok(None);
     }
@@ -131,7 +131,7 @@ pub fn failing_pair(
     t: u32,
     test: Test,
 ) -> Result<Option<Option<Pair>>, NoMemory> {
-    let _limits = star.graph();
+    star.within_limits();
     let Some(walk) = walk_through(alloc, star, s, v, t)? else {
         return Ok(None);
     };

@@ -8,7 +8,7 @@ use Rattle.grid_survey.proofs.Progress.{has_room, next_query, progress_end, prog
 use Rattle.grid_survey.proofs.queries.answer_all.Goals as goal
 
 pub new-requires-clause-near : goal.new-requires-clause-near
-new-requires-clause-near c = dists_below c.args.star.now c.graph.ensures.limits
+new-requires-clause-near c = dists_below c.args.star.now c.vertices-vertices.ensures.limits
 
 pub loop-query-init : goal.loop-query-init
 loop-query-init c = record {
@@ -19,7 +19,7 @@ loop-query-init c = record {
 
 pub count-requires : goal.count-requires
 count-requires c =
-    has_room c.args.star.now c.args.words.now c.args.queries c.loop-query.words (c.args.queries - c.loop-query._query) c.loop-query.summary c.usual.result c.in_ok-answer.answer c.graph.ensures.limits c.requires.few (omega arith) c.loop-query.invariant.counted c.in_ok-answer.ensures.answer
+    has_room c.args.star.now c.args.words.now c.args.queries c.loop-query.words (c.args.queries - c.loop-query._query) c.loop-query.summary c.usual.result c.in_ok-answer.answer c.vertices-vertices.ensures.limits c.requires.few (omega arith) c.loop-query.invariant.counted c.in_ok-answer.ensures.answer
 
 pub loop-query-preserved : goal.loop-query-preserved
 loop-query-preserved c =
