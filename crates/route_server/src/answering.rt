@@ -45,7 +45,7 @@ fn limits(star: &Star) -> Limits
 {
     Limits {
         vertices: star.vertices(),
-        arcs: star.graph().arcs().len() as u32,
+        arcs: star.arc_count(),
         number: NUMBER,
         kept: false,
     }

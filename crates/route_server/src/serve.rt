@@ -7,7 +7,7 @@ ghost use Rattle.road_model.specs.Dist.{HaveSameDist};
 ghost use Rattle.line_front.specs.Replies.{HasItems};
 ghost use Rattle.route_server.specs.Desks.{IsReadersLine};
 ghost use Rattle.route_server.specs.Serving.{Stops, opening};
-ghost use Rattle.route_server.specs.Served.{Serves, Sends};
+ghost use Rattle.route_server.specs.Served.{Serves, SendsReply};
 ghost use Rattle.route_server.specs.Asking.{is_quit};
 ghost use Rattle.route_server.specs.Causes.{IsLong, IsRefusal, IsWhole};
 
@@ -41,7 +41,7 @@ pub enum Served {
 fn send<K: Sink>(answer: &Answer, gathered: &mut Gathered, output: &mut K) -> Served
     requires items { HasItems answer.now.reply answer.now.shown }
     ensures sends { IfTold (K.written output.old) (K.written output.new)
-        (λ out now. Sends answer.now out now result) }
+        (λ out now. SendsReply answer.now out now result) }
     ensures count { K.faults output.old ≤ K.faults output.new }
     ensures cause { result ≡ Served.WriteFault → HasRisen (K.faults output.old) (K.faults output.new) }
     ensures quiet { result ≢ Served.WriteFault → K.faults output.new ≡ K.faults output.old }
