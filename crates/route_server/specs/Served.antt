@@ -6,7 +6,9 @@
 --   Serves         Written: its reply stands there; Quit: it ends the run; WriteFault: a prefix of its reply stands
 --                  there; NoMemory: nothing was written
 --   Sends          the same of the write of a reply, which ends no run
-use Rattle.std.specs.Prelude.{◌≡◌, ℕ, true, false, List, ◌++◌}
+use Rattle.std.specs.Prelude.{◌≡◌, ℕ, true, false, List, ◌++◌, Option}
+use Rattle.road_model.specs.declared.answer.Plan.{Plan}
+use Rattle.road_model.specs.declared.request.Reply.{Reply}
 use Rattle.road_model.specs.Graph.{Graph}
 use Rattle.desk_core.specs.States.{State}
 use Rattle.line_front.specs.declared.requests.Parsed.{Parsed}
@@ -14,7 +16,6 @@ use Rattle.route_server.specs.declared.serve.Served.{Served}
 use Rattle.route_server.specs.declared.serve.Served.TheVariants as the
 use Rattle.line_front.specs.Replies.{reply_text}
 use Rattle.road_io.specs.Sink.{WritesFront}
-use Rattle.route_server.specs.declared.answering.Answer.{Answer}
 use Rattle.route_server.specs.Asking.{is_quit}
 use Rattle.route_server.specs.Serving.{IsReply}
 
@@ -45,8 +46,8 @@ Serves g state asked out now next the.WriteFault = IsServedFront g state asked o
 Serves g state asked out now next the.NoMemory = now ≡ out
 
 -- how the write of a reply ends
-abbrev pub Sends : Answer → List ℕ → List ℕ → Served → Type 0
-Sends answer out now the.Written = now ≡ out ++ reply_text answer.reply answer.shown
-Sends answer out now the.Quit = ⊥
-Sends answer out now the.WriteFault = WritesFront (reply_text answer.reply answer.shown) out now
-Sends answer out now the.NoMemory = now ≡ out
+abbrev pub Sends : Reply → Option Plan → List ℕ → List ℕ → Served → Type 0
+Sends reply shown out now the.Written = now ≡ out ++ reply_text reply shown
+Sends reply shown out now the.Quit = ⊥
+Sends reply shown out now the.WriteFault = WritesFront (reply_text reply shown) out now
+Sends reply shown out now the.NoMemory = now ≡ out
