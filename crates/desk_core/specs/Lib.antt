@@ -4,3 +4,7 @@ pub mod States
 pub mod Replies
 pub mod SmallNumbers
 pub mod Runs
+pub mod Desks
+pub mod KeptAnswers
+pub mod KeyLaws
+pub mod Views

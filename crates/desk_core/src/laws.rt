@@ -3,13 +3,20 @@
 ghost use Rattle.std.specs.Prelude.{◌≡◌, ◌≤◌, ℕ, List, Option};
 ghost use Rattle.road_model.specs.declared.answer.Optimum.{Optimum};
 ghost use Rattle.road_model.specs.declared.answer.PageSpan.{PageSpan};
+ghost use Rattle.road_model.specs.declared.answer.Plan.{Plan};
 ghost use Rattle.road_model.specs.declared.answer.Query.{Query};
 ghost use Rattle.road_model.specs.declared.answer.Route.{Route};
+ghost use Rattle.road_model.specs.declared.change.Change.{Change};
 ghost use Rattle.road_model.specs.declared.request.CursorQuery.{CursorQuery};
+ghost use Rattle.road_model.specs.declared.request.Reply.{Reply};
+ghost use Rattle.road_model.specs.declared.request.Request.{Request};
 ghost use Rattle.road_model.specs.declared.request.Request.TheVariants as the;
 ghost use Rattle.road_model.specs.Graph.{Graph};
-ghost use Rattle.desk_core.specs.States.{State, newest, graph_at};
+ghost use Rattle.desk_core.specs.States.{State, newest, graph_at, published, staging};
+ghost use Rattle.desk_core.specs.Replies.{IsStep};
 ghost use Rattle.desk_core.specs.Runs.{Turn, IsRun, Follow, PagesJoin, HasReplyChain};
+ghost use Rattle.desk_core.specs.Desks.{DeskState, IsDeskStep};
+ghost use Rattle.desk_core.specs.KeptAnswers.{AreAnswers, with_desk};
 
 /// A version keeps its graph, whatever is published after it.
 pub fn a_version_keeps_its_graph()
@@ -29,4 +36,25 @@ pub fn pages_of_a_run_join()
 pub fn a_chain_ends()
     ensures { (number : ℕ) (q : Query) (size : ℕ) (optimum : Optimum) (others : List Route) → 1 ≤ size →
         HasReplyChain number q size optimum others }
+{}
+
+/// The steps of one desk are steps of a run: where its plans are answers of the versions that they are kept under, and
+/// the newest version is pinned.
+pub fn a_desk_step_is_a_step()
+    ensures step { (g : Graph) (state : State) (desk next : DeskState) (request : Request) (reply : Reply)
+        (shown : Option Plan) → AreAnswers g state desk →
+        IsDeskStep (newest state) (graph_at g state (newest state)) desk request reply shown next →
+        IsStep g (with_desk state desk) request reply shown (with_desk state next) }
+    ensures kept { (g : Graph) (state : State) (desk next : DeskState) (request : Request) (reply : Reply)
+        (shown : Option Plan) → AreAnswers g state desk →
+        IsDeskStep (newest state) (graph_at g state (newest state)) desk request reply shown next →
+        AreAnswers g state next }
+{}
+
+/// The plans that a desk keeps stay answers, whatever is staged and published.
+pub fn kept_answers_stay_answers()
+    ensures staged { (g : Graph) (state : State) (change : Change) (desk : DeskState) →
+        AreAnswers g state desk → AreAnswers g (staging state change) desk }
+    ensures published { (g : Graph) (state : State) (desk : DeskState) →
+        AreAnswers g state desk → AreAnswers g (published state) desk }
 {}

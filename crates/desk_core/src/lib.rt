@@ -1,13 +1,20 @@
 //! What a desk does with a request: the tests that it has to pass, in their order, and the page of its answer. A reply
-//! is a step of a state: the published batches, the staged changes, and the answers that are kept.
+//! is a step of a state: the published batches, the staged changes, and the answers that are kept. A `Desk` keeps
+//! plans, and answers over whichever version is pinned.
 #![tactic(auto)]
 
+mod desk;
 mod laws;
 mod pages;
+mod plan_key;
 mod refusals;
 #[cfg(test)]
 mod tests;
 
-pub use laws::{a_chain_ends, a_version_keeps_its_graph, pages_of_a_run_join};
+pub use desk::Desk;
+pub use laws::{
+    a_chain_ends, a_desk_step_is_a_step, a_version_keeps_its_graph, kept_answers_stay_answers,
+    pages_of_a_run_join,
+};
 pub use pages::page_reply;
 pub use refusals::{Asked, Limits, tested};

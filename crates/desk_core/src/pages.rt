@@ -17,7 +17,7 @@ fn numbers_of(ratio: &Ratio) -> (u64, u64)
 }
 
 /// The numbers of a query.
-fn query_numbers(query: &Query) -> CursorQuery
+pub(crate) fn query_numbers(query: &Query) -> CursorQuery
     ensures is { result ≡ numbers_in query.now }
     ensures small { AreQuerySmall result }
 {

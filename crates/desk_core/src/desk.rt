@@ -1,0 +1,197 @@
+//! The desk that keeps plans.
+
+ghost use Rattle.std.specs.Prelude.{◌≡◌, ◌≤◌, false, option_map, option_copied, IfOk, IsSome, OnErr, OnOk};
+ghost use Rattle.road_model.specs.Graph.{IsVertex};
+ghost use Rattle.desk_core.specs.Replies.{best_reply, may_refuse_memory, why_reply};
+ghost use Rattle.desk_core.specs.Desks.{desk_limits, empty_desk, first_plan, key_of, plan_at, HasSmallCursor, IsBrought, IsDeskAnswer, IsDeskQuestion, IsDeskRequest, IsDeskStep, NeedsMemory};
+
+use crate::pages::{page_reply, query_numbers};
+use crate::plan_key::{PlanKey, asked_key};
+use crate::refusals::{Asked, Limits, tested};
+use lru::LruCache;
+use road_model::{
+    ErrorKind, NoMemory, Optimum, Pinned, Plan, Planner, Query, Reply, Request, Verdict, Vertex,
+};
+use std::alloc::Global;
+use std::marker::Model;
+use std::num::NonZeroUsize;
+use std::sync::Arc;
+
+/// Answers requests, and keeps the plans of the last pages. To a clause it is a `DeskState`.
+///
+/// It keeps few plans, at most 64, so keys that are chosen to collide cost little.
+#[derive(Drop)]
+pub struct Desk {
+    plans: LruCache<PlanKey, Arc<Plan, Global>>,
+}
+
+impl Model for Desk {
+    ghost use Rattle.desk_core.specs.Desks.{DeskState};
+    ghost use Rattle.desk_core.specs.Views.{desk_of};
+
+    ghost Value = { DeskState };
+
+    ghost view = { λ d. desk_of d.plans };
+}
+
+fn best_reply(number: u64, found: Option<Optimum>) -> Reply
+    ensures { result ≡ best_reply number found }
+{
+    match found {
+        Some(optimum) => Reply::Best { number, optimum },
+        None => Reply::NoPath { number },
+    }
+}
+
+fn why_reply(number: u64, via: Vertex, found: Option<Verdict>) -> Reply
+    ensures { result ≡ why_reply number via found }
+{
+    match found {
+        Some(verdict) => Reply::Why {
+            number,
+            via,
+            verdict,
+        },
+        None => Reply::NoPath { number },
+    }
+}
+
+impl Desk {
+    /// A desk that keeps so many plans. The memory of its index is taken here, that of a plan when it is made.
+    pub fn start(alloc: Global, kept: u32) -> Result<Desk, NoMemory>
+        requires some { 1 ≤ kept }
+        requires few { kept ≤ 64 }
+        ensures { IfOk result (λ d. d ≡ empty_desk kept) }
+    {
+        let Some(room) = NonZeroUsize::new(kept as usize) else {
+            unreachable!()
+        };
+        let plans = LruCache::new(alloc, room)?;
+        Ok(Desk { plans })
+    }
+
+    /// The plan that was used last: after a page, the plan that the page is of. Takes no memory.
+    pub fn shown(&self) -> Option<&Arc<Plan, Global>>
+        ensures { option_map (λ p. p.value) (option_copied result) ≡ first_plan self.now }
+    {
+        let (_, plan) = self.plans.peek_mru()?;
+        Some(plan)
+    }
+
+    /// What a request is tested against.
+    fn limits<P: Planner>(&self, pinned: &Pinned<P>, request: &Request) -> Limits
+        ensures { result ≡ desk_limits (P.version pinned.now) (P.graph pinned.now) self.now request.now }
+    {
+        let number = pinned.number();
+        let kept = match asked_key(number, request) {
+            Some(key) => self.plans.contains(&key),
+            None => false,
+        };
+        Limits {
+            vertices: pinned.prepared().vertices(),
+            arcs: pinned.prepared().arcs(),
+            number,
+            kept,
+        }
+    }
+
+    /// Makes the plan of this key the last used. One that isn't kept is made in the pinned version.
+    fn bring<P: Planner>(
+        &mut self,
+        alloc: Global,
+        work: &mut P::Work,
+        pinned: &Pinned<P>,
+        version: u64,
+        query: &Query,
+    ) -> Result<(), NoMemory>
+        requires source { IsVertex (P.graph pinned.now).vertices query.now.from }
+        requires target { IsVertex (P.graph pinned.now).vertices query.now.to }
+        ensures brought { OnOk result (IsBrought (P.graph pinned.now) query.now self.old version self.new) }
+        ensures err { OnErr result (self.new ≡ self.old) }
+        ensures memory { OnErr result (plan_at self.old (key_of version query.now) ≡ None) }
+        ensures idle { IsSome (plan_at self.old (key_of version query.now)) → work.new ≡ work.old }
+    {
+        prove!(self.plans.len() <= self.plans.cap().get());
+        let key = PlanKey {
+            version,
+            query: query_numbers(query),
+        };
+        if !self.plans.promote(&key) {
+            let plan = pinned.prepared().plan(alloc, work, query)?;
+            self.plans.put(key, Arc::new(alloc, plan)?)?;
+        }
+        Ok(())
+    }
+
+    /// Answers what is asked.
+    fn answered<P: Planner>(
+        &mut self,
+        alloc: Global,
+        work: &mut P::Work,
+        pinned: &Pinned<P>,
+        asked: &Asked,
+    ) -> Result<Reply, NoMemory>
+        requires { IsDeskQuestion (P.graph pinned.now) asked.now }
+        ensures answer { IfOk result (λ r.
+            IsDeskAnswer (P.version pinned.now) (P.graph pinned.now) self.old asked.now r (first_plan self.new) self.new) }
+        ensures small { IfOk result HasSmallCursor }
+        ensures err { OnErr result (self.new ≡ self.old) }
+        ensures memory { OnErr result (NeedsMemory self.old asked.now) }
+        ensures idle { (NeedsMemory self.old asked.now → ⊥) → work.new ≡ work.old }
+    {
+        let number = pinned.number();
+        let version = pinned.prepared();
+        match asked {
+            Asked::Best { from, to } => {
+                Ok(best_reply(number, version.best(alloc, work, *from, *to)?))
+            }
+            Asked::Page {
+                number,
+                query,
+                size,
+                offset,
+            } => {
+                self.bring(alloc, work, pinned, *number, query)?;
+                let Some(plan) = self.shown() else {
+                    unreachable!()
+                };
+                Ok(page_reply(*number, query, *size, *offset, plan))
+            }
+            Asked::Why { query, via } => {
+                let found = version.verdict(alloc, work, query, *via)?;
+                Ok(why_reply(number, *via, found))
+            }
+            Asked::Version => Ok(Reply::Version { number }),
+            Asked::Length(_) | Asked::Publish | Asked::Quit => unreachable!(),
+        }
+    }
+
+    /// Replies to a request over the pinned version: its refusal, or its answer, or that memory was refused. Where the
+    /// reply is a page, the plan that it is of is the one that is `shown`.
+    ///
+    /// A page of a kept plan, in whichever version, takes no memory and makes no search. Any other takes those of a
+    /// plan.
+    pub fn handle<P: Planner>(
+        &mut self,
+        alloc: Global,
+        work: &mut P::Work,
+        pinned: &Pinned<P>,
+        request: &Request,
+    ) -> Reply
+        requires { IsDeskRequest request.now }
+        ensures step { IsDeskStep (P.version pinned.now) (P.graph pinned.now) self.old request.now result
+            (first_plan self.new) self.new }
+        ensures small { HasSmallCursor result }
+        ensures idle { may_refuse_memory (desk_limits (P.version pinned.now) (P.graph pinned.now) self.old request.now)
+            request.now ≡ false → work.new ≡ work.old }
+    {
+        let limits = self.limits(pinned, request);
+        match tested(&limits, request) {
+            Ok(asked) => match self.answered(alloc, work, pinned, &asked) {
+                Ok(reply) => reply,
+                Err(_) => Reply::Error(ErrorKind::Memory),
+            },
+            Err(kind) => Reply::Error(kind),
+        }
+    }
+}
