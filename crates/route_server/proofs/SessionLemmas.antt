@@ -2,7 +2,8 @@
 use Rattle.std.proofs.Common.{◌≡◌, ◌≢◌, ◌⊎◌, ℕ, ◌+◌, ◌-◌, ◌≤◌, min, Bool, true, false, cond, List, [], ◌∷◌, ◌++◌, length, take, Option, Some, None, Result, Ok, Err, IsTrue, refl, sym, ap, ◌∙◌, subst, arith, inl, inr}
 use Rattle.std.specs.Prelude.{not, ◌==◌, ◌&&◌}
 use Rattle.std.specs.Option.{option_or}
-use Rattle.std.proofs.lemmas.List.{take_all, length-append}
+use Rattle.std.proofs.lemmas.List.{take_all}
+use Rattle.std.proofs.lemmas.List.Elements.{All-nil}
 use Rattle.std.proofs.lemmas.Bool.Decides.{nat_tests}
 use Rattle.road_model.specs.declared.answer.Optimum.{Optimum}
 use Rattle.road_model.specs.declared.answer.PageSpan.{PageSpan}
@@ -27,13 +28,16 @@ use Rattle.desk_core.specs.declared.refusals.Asked.{Asked}
 use Rattle.desk_core.specs.declared.refusals.Asked.TheVariants as asked
 use Rattle.desk_core.specs.declared.refusals.Limits.{Limits}
 use Rattle.desk_core.specs.Refusals.{is_within, outcome, passed}
-use Rattle.desk_core.specs.States.{State, graph_at, limits_in, newest, published, staging}
+use Rattle.desk_core.specs.States.{State, at_start, graph_at, limits_in, newest}
 use Rattle.desk_core.specs.Replies.{best_reply, why_reply, IsAnswered, IsAnswerTo, IsPageReply, IsStep, may_refuse_memory}
+use Rattle.desk_core.specs.Desks.{DeskState, empty_desk, IsDeskStep}
+use Rattle.desk_core.specs.KeptAnswers.{with_desk, IsKeptAnswer}
+use Rattle.desk_core.proofs.KeptLemmas.{desk_step, step_keeps, staged_keeps, published_keeps}
 use Rattle.desk_core.proofs.Passed.{passed_ok}
 use Rattle.line_front.specs.Replies.{HasItems}
 use Rattle.route_server.specs.Asking.{is_quit_request}
-use Rattle.route_server.specs.Sessions.{IsChange, IsMade}
-use Rattle.route_server.proofs.ChangeLemmas.{SameSize, after_all-size, change_fault-size}
+use Rattle.route_server.specs.Sessions.{SessionState, state_of, versions_of, IsChange, IsMade, IsSound}
+use Rattle.route_server.proofs.ChangeLemmas.{SameSize, change_fault-push, change_fault-size}
 
 -- ---- what a page shows
 
@@ -182,3 +186,32 @@ only_memory g v n staged given same sound more (inr other) =
 pub newest_graph : (g : Graph) (state : State) → graph_at g state (newest state) ≡ after_all g state.batches
 newest_graph g state =
     ap (after_all g) (take_all (newest state - 1) state.batches (let e : newest state - 1 ≡ length state.batches = omega arith in omega arith))
+
+-- ---- what a session holds
+
+pub sound_start : (g : Graph) (batches : List (List Change)) (staged : List Change) (desk : DeskState) → batches ≡ [] → staged ≡ [] → desk ≡ empty_desk 8 → IsSound (record { base = g; batches = batches; staged = staged; desk = desk })
+sound_start g batches staged desk b s e =
+    rw (b, s, e) (record { answers = All-nil (IsKeptAnswer g (at_start 0)); faultless = refl })
+
+pub sound_staged : (s : SessionState) (c : Change) (staged : List Change) → IsSound s → fault_of s.base c ≡ None → staged ≡ s.staged ++ c ∷ [] → IsSound (record { base = s.base; batches = s.batches; staged = staged; desk = s.desk })
+sound_staged s c staged sound f e =
+    rw e (record { answers = staged_keeps s.base (versions_of s) c s.desk sound.answers; faultless = change_fault-push s.base s.staged c sound.faultless f })
+
+pub sound_published : (s : SessionState) (base : Graph) (batches : List (List Change)) (staged : List Change) → IsSound s → base ≡ s.base → batches ≡ s.batches ++ s.staged ∷ [] → staged ≡ [] → IsSound (record { base = base; batches = batches; staged = staged; desk = s.desk })
+sound_published s base batches staged sound b h e =
+    rw (b, h, e) (record { answers = published_keeps s.base (versions_of s) s.desk sound.answers; faultless = refl })
+
+-- ---- the step of the desk
+
+here : (s : SessionState) (v : Graph) (number : ℕ) (next : DeskState) (request : Request) (r : Reply) (shown : Option Plan) → v ≡ after_all s.base s.batches → number ≡ length s.batches + 1 → IsDeskStep number v s.desk request r shown next → IsDeskStep (newest (versions_of s)) (graph_at s.base (versions_of s) (newest (versions_of s))) s.desk request r shown next
+here s v number next request r shown g n step =
+    subst (λ (h : Graph). IsDeskStep (newest (versions_of s)) h s.desk request r shown next) (g ∙ sym (newest_graph s.base (versions_of s)))
+    (subst (λ (k : ℕ). IsDeskStep k v s.desk request r shown next) n step)
+
+pub desk_steps : (s : SessionState) (v : Graph) (number : ℕ) (next : DeskState) (request : Request) (r : Reply) (shown : Option Plan) → IsSound s → v ≡ after_all s.base s.batches → number ≡ length s.batches + 1 → IsDeskStep number v s.desk request r shown next → IsStep s.base (state_of s) request r shown (with_desk (versions_of s) next)
+desk_steps s v number next request r shown sound g n step =
+    desk_step s.base (versions_of s) s.desk next request r shown sound.answers (here s v number next request r shown g n step)
+
+pub sound_answered : (s : SessionState) (v : Graph) (number : ℕ) (next : DeskState) (request : Request) (r : Reply) (shown : Option Plan) → IsSound s → v ≡ after_all s.base s.batches → number ≡ length s.batches + 1 → IsDeskStep number v s.desk request r shown next → IsSound (record { base = s.base; batches = s.batches; staged = s.staged; desk = next })
+sound_answered s v number next request r shown sound g n step =
+    record { answers = step_keeps s.base (versions_of s) s.desk next request r shown sound.answers (here s v number next request r shown g n step); faultless = sound.faultless }
