@@ -8,13 +8,10 @@ use Rattle.std.specs.Map as entries
 use Rattle.std.specs.declared.sync.Arc.{Arc}
 use Rattle.std.proofs.lemmas.List.{take-map, take_all, length-map}
 use Rattle.road_model.specs.declared.answer.Plan.{Plan}
-use Rattle.road_model.specs.declared.answer.Query.{Query}
-use Rattle.road_model.specs.Graph.{Graph}
-use Rattle.road_model.specs.Answers.{IsAnswer}
 use Rattle.lru.specs.LruCache.{LruCache, lru_cache, promoted, put_entries, IsValid}
 use Rattle.desk_core.specs.States.{Key, same_key}
 use Rattle.desk_core.specs.KeyLaws.{same_key_decides}
-use Rattle.desk_core.specs.Desks.{Kept, DeskState, plan_at, first_plan, put_first, key_of, IsPlanAt, IsUsed, IsBrought}
+use Rattle.desk_core.specs.Desks.{Kept, DeskState, plan_at, first_plan, keeps, put_first, IsMoved}
 use Rattle.desk_core.specs.Views.{kept_of, desk_of}
 
 abbrev at_key : Key → Kept → Bool
@@ -31,11 +28,14 @@ take_first : (n : ℕ) (k : Kept) (ks : List Kept) → 0 < n → take n (k ∷ k
 take_first zero k ks some = absurd (omega (arith, some))
 take_first (suc n) k ks some = ap (λ (m : ℕ). k ∷ take m ks) (let e : n ≡ suc n - 1 = omega arith in e)
 
-pub put_first_first : (desk : DeskState) (key : Key) (plan : Plan) → 0 < desk.room → first_plan (put_first desk key plan) ≡ Some plan
+put_first_first : (desk : DeskState) (key : Key) (plan : Plan) → 0 < desk.room → first_plan (put_first desk key plan) ≡ Some plan
 put_first_first desk key plan some =
     let k : Kept = record { key = key; plan = plan } in
     let ks : List Kept = filter (other_than key) desk.kept in
     subst (λ (l : List Kept). first_plan (record { room = desk.room; kept = l }) ≡ Some plan) (sym (take_first desk.room k ks some)) refl
+
+same_desk : (room : ℕ) (a b : List Kept) → a ≡ b → ◌≡◌ {A = DeskState} (record { room = room; kept = a }) (record { room = room; kept = b })
+same_desk room a b e = ap (λ (l : List Kept). let d : DeskState = record { room = room; kept = l } in d) e
 
 module _ {Z : Type 0} where
   found_is : (key : Key) (es : List (Key × Arc Plan Z)) → option_map plan_in (find (at_key key) (map kept_of es)) ≡ option_map (λ (p : Arc Plan Z). p.value) (lookup (same_key key) es)
@@ -44,14 +44,14 @@ module _ {Z : Type 0} where
       elim (same_key key e.0) as (λ b. option_map plan_in (cond b (Some (kept_of e)) (find (at_key key) (map kept_of es))) ≡ option_map (λ (p : Arc Plan Z). p.value) (cond b (Some e.1) (lookup (same_key key) es)))
       [ true ↦ refl | false ↦ found_is key es ]
 
-  pub plan_at_is : (c : LruCache Key (Arc Plan Z)) (key : Key) → plan_at (desk_of c) key ≡ option_map (λ (p : Arc Plan Z). p.value) (lookup (same_key key) c.entries)
+  plan_at_is : (c : LruCache Key (Arc Plan Z)) (key : Key) → plan_at (desk_of c) key ≡ option_map (λ (p : Arc Plan Z). p.value) (lookup (same_key key) c.entries)
   plan_at_is c key = found_is key c.entries
 
   there_is : (o : Option (Arc Plan Z)) → is_some (option_map (λ (p : Arc Plan Z). p.value) o) ≡ is_some o
   there_is None = refl
   there_is (Some p) = refl
 
-  pub is_there : (c : LruCache Key (Arc Plan Z)) (key : Key) → is_some (plan_at (desk_of c) key) ≡ is_some (lookup (same_key key) c.entries)
+  is_there : (c : LruCache Key (Arc Plan Z)) (key : Key) → is_some (plan_at (desk_of c) key) ≡ is_some (lookup (same_key key) c.entries)
   is_there c key = ap is_some (plan_at_is c key) ∙ there_is (lookup (same_key key) c.entries)
 
   -- ---- the others
@@ -118,9 +118,6 @@ module _ {Z : Type 0} where
   abbrev kept_as : Key → Arc Plan Z → Kept
   kept_as key p = record { key = key; plan = p.value }
 
-  same_desk : (room : ℕ) (a b : List Kept) → a ≡ b → ◌≡◌ {A = DeskState} (record { room = room; kept = a }) (record { room = room; kept = b })
-  same_desk room a b e = ap (λ (l : List Kept). let d : DeskState = record { room = room; kept = l } in d) e
-
   abbrev after_promote : LruCache Key (Arc Plan Z) → Key → LruCache Key (Arc Plan Z)
   after_promote c key = lru_cache (promoted (same_key key) c.entries) c.cap
 
@@ -150,37 +147,46 @@ module _ {Z : Type 0} where
   no_value None h = refl
   no_value (Some p) h = absurd (let f : true ≡ false = h in cc)
 
-  pub unpromoted : (c : LruCache Key (Arc Plan Z)) (key : Key) → is_some (lookup (same_key key) c.entries) ≡ false → after_promote c key ≡ c
+  unpromoted : (c : LruCache Key (Arc Plan Z)) (key : Key) → is_some (lookup (same_key key) c.entries) ≡ false → after_promote c key ≡ c
   unpromoted c key h =
       let none = none_at key c.entries (no_value (lookup (same_key key) c.entries) h) in
       ap (λ (o : Option (Key × Arc Plan Z)). lru_cache (option_map_or (λ (e : Key × Arc Plan Z). e ∷ remove_entry (same_key key) c.entries) o c.entries) c.cap) (none_entry key c.entries none)
 
-  pub none_kept : (c : LruCache Key (Arc Plan Z)) (key : Key) → is_some (lookup (same_key key) c.entries) ≡ false → plan_at (desk_of c) key ≡ None
-  none_kept c key h =
-      plan_at_is c key ∙ ap (λ (o : Option (Arc Plan Z)). option_map (λ (p : Arc Plan Z). p.value) o) (no_value (lookup (same_key key) c.entries) h)
-
-  brought : (graph : Graph) (q : Query) (desk next : DeskState) (version : ℕ) (plan : Plan) → 0 < desk.room → IsPlanAt graph q (plan_at desk (key_of version q)) plan → next ≡ put_first desk (key_of version q) plan → IsBrought graph q desk version next
-  brought graph q desk next version plan some is_plan e = record {
-    plan = plan;
-    is_first = ap first_plan e ∙ put_first_first desk (key_of version q) plan some;
-    used = record { is_plan = is_plan; is_next = e };
-  }
-
   -- a plan that is kept comes first
-  pub brought_kept : (graph : Graph) (q : Query) (c : LruCache Key (Arc Plan Z)) (version : ℕ) → IsValid same_key c → is_some (lookup (same_key (key_of version q)) c.entries) ≡ true → IsBrought graph q (desk_of c) version (desk_of (after_promote c (key_of version q)))
-  brought_kept graph q c version valid h =
-      let key : Key = key_of version q in
+  moved : (c : LruCache Key (Arc Plan Z)) (key : Key) → IsValid same_key c → is_some (lookup (same_key key) c.entries) ≡ true → IsMoved (desk_of c) key (desk_of (after_promote c key))
+  moved c key valid h =
       let t = taken key c.entries h in
-      let at : plan_at (desk_of c) key ≡ Some t.plan.value = plan_at_is c key ∙ ap (λ (o : Option (Arc Plan Z)). option_map (λ (p : Arc Plan Z). p.value) o) t.found in
-      brought graph q (desk_of c) (desk_of (after_promote c key)) version t.plan.value valid.2
-      (subst (λ (o : Option Plan). IsPlanAt graph q o t.plan.value) (sym at) refl)
-      (same_desk c.cap _ _ (hit_entries c key valid t))
+      let next : desk_of (after_promote c key) ≡ put_first (desk_of c) key t.plan.value = same_desk c.cap _ _ (hit_entries c key valid t) in
+      record {
+        plan = t.plan.value;
+        is_kept = plan_at_is c key ∙ ap (λ (o : Option (Arc Plan Z)). option_map (λ (p : Arc Plan Z). p.value) o) t.found;
+        is_first = ap first_plan next ∙ put_first_first (desk_of c) key t.plan.value valid.2;
+        is_next = next;
+      }
 
-  -- one that was made comes first
-  pub brought_made : (graph : Graph) (q : Query) (c : LruCache Key (Arc Plan Z)) (version : ℕ) (p : Arc Plan Z) → IsValid same_key c → is_some (lookup (same_key (key_of version q)) c.entries) ≡ false → IsAnswer graph q p.value → IsBrought graph q (desk_of c) version (desk_of (after_put c (key_of version q) p))
-  brought_made graph q c version p valid h answer =
-      let key : Key = key_of version q in
-      let none = none_at key c.entries (no_value (lookup (same_key key) c.entries) h) in
-      brought graph q (desk_of c) (desk_of (after_put c key p)) version p.value valid.2
-      (subst (λ (o : Option Plan). IsPlanAt graph q o p.value) (sym (none_kept c key h)) answer)
-      (same_desk c.cap _ _ (miss_entries c key p valid.2 none))
+  -- one that isn't kept comes first too
+  put_is : (c : LruCache Key (Arc Plan Z)) (key : Key) (p : Arc Plan Z) → IsValid same_key c → plan_at (desk_of c) key ≡ None → desk_of (after_put c key p) ≡ put_first (desk_of c) key p.value
+  put_is c key p valid h =
+      let no : is_some (lookup (same_key key) c.entries) ≡ false = sym (is_there c key) ∙ ap is_some h in
+      same_desk c.cap _ _ (miss_entries c key p valid.2 (none_at key c.entries (no_value (lookup (same_key key) c.entries) no)))
+
+  -- ---- as the desk has it
+
+  pub keeps_is : (c : LruCache Key (Arc Plan Z)) (desk : DeskState) (o : Option Key) (key : Key) (b : Bool) → desk_of c ≡ desk → o ≡ Some key → b ≡ is_some (lookup (same_key key) c.entries) → b ≡ keeps desk o
+  keeps_is c desk o key b view is e = e ∙ sym (is_there c key) ∙ ap (λ (d : DeskState). keeps d (Some key)) view ∙ ap (keeps desk) (sym is)
+
+  pub promote_kept : (c : LruCache Key (Arc Plan Z)) (desk : DeskState) (key : Key) (b : Bool) → desk_of c ≡ desk → b ≡ is_some (lookup (same_key key) c.entries) → is_some (plan_at desk key) ≡ b
+  promote_kept c desk key b view e = ap (λ (d : DeskState). is_some (plan_at d key)) (sym view) ∙ is_there c key ∙ sym e
+
+  pub promote_moved : (c new : LruCache Key (Arc Plan Z)) (desk : DeskState) (key : Key) (b : Bool) → desk_of c ≡ desk → IsValid same_key c → b ≡ is_some (lookup (same_key key) c.entries) → new ≡ after_promote c key → b ≡ true → IsMoved desk key (desk_of new)
+  promote_moved c new desk key b view valid e is t =
+      subst (λ (d : DeskState). IsMoved d key (desk_of new)) view
+      (subst (λ (n : LruCache Key (Arc Plan Z)). IsMoved (desk_of c) key (desk_of n)) (sym is) (moved c key valid (sym e ∙ t)))
+
+  pub promote_same : (c new : LruCache Key (Arc Plan Z)) (desk : DeskState) (key : Key) (b : Bool) → desk_of c ≡ desk → b ≡ is_some (lookup (same_key key) c.entries) → new ≡ after_promote c key → b ≡ false → desk_of new ≡ desk
+  promote_same c new desk key b view e is f = ap desk_of (is ∙ unpromoted c key (sym e ∙ f)) ∙ view
+
+  pub put_first_is : (c new : LruCache Key (Arc Plan Z)) (desk : DeskState) (key : Key) (p : Arc Plan Z) (plan : Plan) → desk_of c ≡ desk → IsValid same_key c → plan_at desk key ≡ None → p.value ≡ plan → new ≡ after_put c key p → desk_of new ≡ put_first desk key plan
+  put_first_is c new desk key p plan view valid none value is =
+      ap desk_of is ∙ put_is c key p valid (subst (λ (d : DeskState). plan_at d key ≡ None) (sym view) none)
+      ∙ ap (λ (d : DeskState). put_first d key p.value) view ∙ ap (put_first desk key) value

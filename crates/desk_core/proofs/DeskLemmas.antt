@@ -1,6 +1,6 @@
 -- What a desk asks and replies.
 use Rattle.std.proofs.Common.{◌≡◌, ℕ, ◌+◌, ◌<◌, ◌≤◌, ◌^◌, ◌⊎◌, Bool, true, false, List, [], ◌∷◌, Option, Some, None, Result, Ok, Err, cond, refl, sym, ap, ◌∙◌, subst, arith, inl, inr}
-use Rattle.std.specs.Prelude.{not, ◌&&◌, ◌==◌, is_some, IsTrue, IfSome}
+use Rattle.std.specs.Prelude.{not, ◌&&◌, ◌==◌, is_some, IsTrue, IfOk, IfSome}
 use Rattle.std.proofs.lemmas.Bool.Decides.{nat_tests}
 use Rattle.road_model.specs.declared.answer.PageSpan.{PageSpan}
 use Rattle.road_model.specs.declared.answer.Plan.{Plan}
@@ -15,6 +15,7 @@ use Rattle.road_model.specs.declared.request.Reply.TheVariants as reply
 use Rattle.road_model.specs.declared.request.Request.{Request}
 use Rattle.road_model.specs.declared.request.Request.TheVariants as the
 use Rattle.road_model.specs.Graph.{Graph}
+use Rattle.road_model.specs.Answers.{IsAnswer}
 use Rattle.road_model.specs.Queries.{query_of}
 use Rattle.route_ranking.specs.Cursors.{IsSmall}
 use Rattle.desk_core.specs.declared.refusals.Limits.{Limits}
@@ -22,7 +23,7 @@ use Rattle.desk_core.specs.declared.refusals.Asked.{Asked}
 use Rattle.desk_core.specs.declared.refusals.Asked.TheVariants as asked
 use Rattle.desk_core.specs.Refusals.{passed, outcome, is_newer, is_within, are_vertices, are_ratios, best_tests, route_tests, next_tests, why_tests, IsInRange}
 use Rattle.desk_core.specs.Replies.{may_refuse_memory, more_in, more_of, numbers_in, IsMemoryRefused, IsPageReply}
-use Rattle.desk_core.specs.Desks.{DeskState, desk_limits, keeps, key_of, plan_at, HasSmallCursor, IsDeskAnswer, IsDeskAnswered, IsDeskQuestion, IsDeskRequest, IsDeskStep, NeedsMemory}
+use Rattle.desk_core.specs.Desks.{DeskState, desk_limits, first_plan, key_of, plan_at, put_first, HasSmallCursor, IsBrought, IsDeskAnswer, IsDeskAnswered, IsDeskQuestion, IsDeskRequest, IsDeskStep, IsMoved, IsPlanAt, NeedsMemory}
 use Rattle.desk_core.proofs.Passed.{passed_ok}
 
 -- ---- the tests that were passed
@@ -42,9 +43,18 @@ route_size l q size since a e =
     small_size size
     (passed_third (not (are_vertices l (q.from ∷ q.to ∷ []))) (not (are_ratios q)) (not (is_within 1 64 size)) (is_newer since l.number) error.Vertex error.Ratio error.Size (error.Behind l.number) (asked.Page l.number (query_of q) size 0) a e).0
 
-next_tested : (l : Limits) (c : Cursor) (a : Asked) → outcome l (the.Next c) ≡ Ok a → (not (is_within 1 64 c.size) ≡ false) × ((not (c.version == l.number) && not l.kept) ≡ false)
+pub next_tested : (l : Limits) (c : Cursor) (a : Asked) → outcome l (the.Next c) ≡ Ok a → (not (is_within 1 64 c.size) ≡ false) × ((not (c.version == l.number) && not l.kept) ≡ false)
 next_tested l c a e =
     passed_third (not (are_vertices l (c.query.from ∷ c.query.to ∷ []))) (not (are_ratios c.query)) (not (is_within 1 64 c.size)) (not (c.version == l.number) && not l.kept) error.Vertex error.Ratio error.Size (error.Gone l.number) (asked.Page c.version (query_of c.query) c.size c.offset) a e
+
+-- a request was tested against what the desk says
+pub outcome_is : (l d : Limits) (r : Request) (t o : Result Asked ErrorKind) → l ≡ d → t ≡ outcome l r → t ≡ o → outcome d r ≡ o
+outcome_is l d r t o e is ok = ap (λ (x : Limits). outcome x r) (sym e) ∙ sym is ∙ ok
+
+pub range_is : (l d : Limits) (t : Result Asked ErrorKind) (a : Asked) → l ≡ d → IfOk t (IsInRange l) → t ≡ Ok a → IsInRange d a
+range_is l d t a e ranges ok =
+    let h : IsInRange l a = subst (λ (x : Result Asked ErrorKind). IfOk x (IsInRange l)) ok ranges in
+    subst (λ (x : Limits). IsInRange x a) e h
 
 -- a request that a desk answers asks what a desk answers
 pub question_of : (number : ℕ) (g : Graph) (desk : DeskState) (r : Request) (a : Asked) → outcome (desk_limits number g desk r) r ≡ Ok a → IsInRange (desk_limits number g desk r) a → IsDeskRequest r → IsDeskQuestion g a
@@ -114,31 +124,8 @@ needs_none number g desk r a e m n =
 abbrev StepBy : ℕ → Graph → DeskState → Request → Reply → Option Plan → DeskState → Result Asked ErrorKind → Type 0
 StepBy number g desk r answer shown next o = IsDeskAnswered number g desk r o answer shown next
 
--- the answer to what it asks
-pub answered_step : (number : ℕ) (g : Graph) (desk next : DeskState) (r : Request) (a : Asked) (answer : Reply) (shown : Option Plan) → outcome (desk_limits number g desk r) r ≡ Ok a → IsDeskAnswer number g desk a answer shown next → IsDeskStep number g desk r answer shown next
-answered_step number g desk next r a answer shown e said = subst (StepBy number g desk r answer shown next) (sym e) (inl said)
-
--- its refusal
-pub refused_step : (number : ℕ) (g : Graph) (desk next : DeskState) (r : Request) (kind : ErrorKind) (answer : Reply) (shown : Option Plan) → outcome (desk_limits number g desk r) r ≡ Err kind → answer ≡ reply.Error kind → next ≡ desk → IsDeskStep number g desk r answer shown next
-refused_step number g desk next r kind answer shown e said stays = subst (StepBy number g desk r answer shown next) (sym e) (said, stays)
-
 -- that memory was refused
 pub starved_step : (number : ℕ) (g : Graph) (desk next : DeskState) (r : Request) (a : Asked) (answer : Reply) (shown : Option Plan) → outcome (desk_limits number g desk r) r ≡ Ok a → NeedsMemory desk a → answer ≡ reply.Error error.Memory → next ≡ desk → IsDeskStep number g desk r answer shown next
 starved_step number g desk next r a answer shown e needs said stays =
     subst (StepBy number g desk r answer shown next) (sym e)
     (inr (record { may = may_refuse number g desk r a e needs; is = said }, stays))
-
--- ---- cursors
-
-cursor_small : (b : Bool) (c : Cursor) → (c.version < 10 ^ 19 → IfSome (cond b (Some c) None) IsSmall) → IfSome (cond b (Some c) None) (λ (d : Cursor). d.version < 10 ^ 19 → IsSmall d)
-cursor_small true c h = h
-cursor_small false c h = tt
-
--- the cursor of a page has the page's version
-pub small_ahead : (number : ℕ) (q : Query) (size offset : ℕ) (plan : Plan) (r : Reply) → size ≤ 64 → IsPageReply number q size offset plan r → (number < 10 ^ 19 → size < 10 ^ 19 → IfSome (more_in r) IsSmall) → HasSmallCursor r
-small_ahead number q size offset NoPath r few is small = subst HasSmallCursor (sym is) tt
-small_ahead number q size offset (Found optimum others) r few page small =
-    let same : more_in r ≡ more_of number q size page.span = ap more_in page.is in
-    let c : Cursor = record { version = number; query = numbers_in q; size = size; offset = page.span.first + page.span.count } in
-    subst (λ (o : Option Cursor). IfSome o (λ (d : Cursor). d.version < 10 ^ 19 → IsSmall d)) (sym same)
-    (cursor_small page.span.more c (λ (v : number < 10 ^ 19). subst (λ (o : Option Cursor). IfSome o IsSmall) same (small v (omega (arith, few)))))

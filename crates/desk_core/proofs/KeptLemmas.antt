@@ -1,6 +1,6 @@
 -- The steps of a desk in a run of requests.
 use Rattle.std.proofs.Common.{◌≡◌, ℕ, zero, suc, ◌+◌, ◌-◌, ◌≤◌, ◌⊎◌, Bool, true, false, cond, List, [], ◌∷◌, ◌++◌, length, take, Option, Some, None, Result, Ok, Err, refl, sym, ap, ◌∙◌, subst, arith, inl, inr}
-use Rattle.std.specs.Prelude.{map, filter, not, ◌&&◌, ◌==◌, is_some, option_map, slice_set, All}
+use Rattle.std.specs.Prelude.{map, filter, not, ◌&&◌, ◌||◌, ◌==◌, is_some, option_map, slice_set, All}
 use Rattle.std.specs.List.{find, list_any}
 use Rattle.std.specs.Cmp.{unsigned_Decides}
 use Rattle.std.proofs.lemmas.List.{take-map, take-append-le, length-append, length-set}
@@ -23,7 +23,7 @@ use Rattle.road_model.specs.Queries.{query_of}
 use Rattle.desk_core.specs.declared.refusals.Limits.{Limits}
 use Rattle.desk_core.specs.declared.refusals.Asked.{Asked}
 use Rattle.desk_core.specs.declared.refusals.Asked.TheVariants as asked
-use Rattle.desk_core.specs.Refusals.{outcome, passed, best_tests, route_tests, next_tests, why_tests}
+use Rattle.desk_core.specs.Refusals.{is_within, outcome, best_tests, route_tests, next_tests, why_tests}
 use Rattle.desk_core.specs.States.{Key, State, newest, graph_at, is_kept, key_in, limits_in, published, same_key, staging, used}
 use Rattle.desk_core.specs.KeyLaws.{same_key_decides}
 use Rattle.desk_core.specs.Replies.{IsAnswered, IsAnswerTo, IsMemoryRefused, IsStep, numbers_in}
@@ -61,7 +61,7 @@ all_alike g (batch ∷ batches) =
 some_at : (key : Key) (ks : List Kept) → list_any (λ (k : Key). same_key key k) (map (λ (k : Kept). k.key) ks) ≡ is_some (option_map (λ (k : Kept). k.plan) (find (λ (k : Kept). same_key key k.key) ks))
 some_at key [] = refl
 some_at key (k ∷ ks) =
-    elim (same_key key k.key) as (λ b. cond b true (list_any (λ (j : Key). same_key key j) (map (λ (j : Kept). j.key) ks)) ≡ is_some (option_map (λ (j : Kept). j.plan) (cond b (Some k) (find (λ (j : Kept). same_key key j.key) ks))))
+    elim (same_key key k.key) as (λ b. b || list_any (λ (j : Key). same_key key j) (map (λ (j : Kept). j.key) ks) ≡ is_some (option_map (λ (j : Kept). j.plan) (cond b (Some k) (find (λ (j : Kept). same_key key j.key) ks))))
     [ true ↦ refl | false ↦ some_at key ks ]
 
 kept_alike : (state : State) (desk : DeskState) (key : Option Key) → is_kept (with_desk state desk) key ≡ keeps desk key
@@ -116,9 +116,9 @@ page_is_pinned number g desk (the.Why p via since) version size offset q e n =
 page_is_pinned number g desk the.Version version size offset q e n =
     let f : ◌≡◌ {A = Result Asked ErrorKind} (Ok asked.Version) (Ok (asked.Page version q size offset)) = e in cc
 page_is_pinned number g desk (the.Length arc long) version size offset q e n =
-    let is : asked.Length (record { arc = arc; length = long }) ≡ asked.Page version q size offset = passed_ok _ (asked.Length (record { arc = arc; length = long })) (asked.Page version q size offset) e in cc
+    let is : asked.Length (record { arc = arc; length = long }) ≡ asked.Page version q size offset = passed_ok ((not (is_within 1 (arc_count g) arc), error.ArcRange) ∷ (not (is_within 1 4294967295 long), error.LengthRange) ∷ []) (asked.Length (record { arc = arc; length = long })) (asked.Page version q size offset) e in cc
 page_is_pinned number g desk the.Publish version size offset q e n =
-    let is : asked.Publish ≡ asked.Page version q size offset = passed_ok _ asked.Publish (asked.Page version q size offset) e in cc
+    let is : asked.Publish ≡ asked.Page version q size offset = passed_ok ((number == 1048576, error.Full) ∷ []) asked.Publish (asked.Page version q size offset) e in cc
 page_is_pinned number g desk the.Quit version size offset q e n =
     let f : ◌≡◌ {A = Result Asked ErrorKind} (Ok asked.Quit) (Ok (asked.Page version q size offset)) = e in cc
 

@@ -5,3 +5,4 @@ pub mod Passed
 pub mod CacheLemmas
 pub mod DeskLemmas
 pub mod KeptLemmas
+pub mod Arcless

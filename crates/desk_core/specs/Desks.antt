@@ -15,6 +15,7 @@
 --   IsPlanAt graph q kept plan   the plan is the kept one; where none is kept, the answer of the graph
 --   IsUsed graph q desk version plan next   it is the plan at the key of this query, and it becomes the last used
 --   IsBrought graph q desk version next     there is such a plan, and it is the first
+--   IsMoved desk key next   the plan that is kept under the key becomes the last used
 --   HasSmallCursor r    where a cursor is shown, its numbers are below 10^19 if its version is
 --   IsDeskPage ..       the reply shows a page of the plan at the key, and that plan becomes the last used
 --   IsDeskAnswer ..     the reply says what was asked; only a page changes what is kept
@@ -116,6 +117,12 @@ pub record IsBrought (graph : Graph) (q : Query) (desk : DeskState) (version : �
   pub plan : Plan
   pub is_first : first_plan next ≡ Some plan
   pub used : IsUsed graph q desk version plan next
+
+pub record IsMoved (desk : DeskState) (key : Key) (next : DeskState) : Type 0 where
+  pub plan : Plan
+  pub is_kept : plan_at desk key ≡ Some plan
+  pub is_first : first_plan next ≡ Some plan
+  pub is_next : next ≡ put_first desk key plan
 
 abbrev pub HasSmallCursor : Reply → Type 0
 HasSmallCursor r = IfSome (more_in r) (λ (c : Cursor). c.version < 10 ^ 19 → IsSmall c)

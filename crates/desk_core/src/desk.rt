@@ -1,9 +1,9 @@
 //! The desk that keeps plans.
 
-ghost use Rattle.std.specs.Prelude.{◌≡◌, ◌≤◌, false, option_map, option_copied, IfOk, IsSome, OnErr, OnOk};
+ghost use Rattle.std.specs.Prelude.{◌≡◌, ◌≤◌, false, true, is_some, option_map, option_copied, IfOk, OnErr, OnOk};
 ghost use Rattle.road_model.specs.Graph.{IsVertex};
 ghost use Rattle.desk_core.specs.Replies.{best_reply, may_refuse_memory, why_reply};
-ghost use Rattle.desk_core.specs.Desks.{desk_limits, empty_desk, first_plan, key_of, plan_at, HasSmallCursor, IsBrought, IsDeskAnswer, IsDeskQuestion, IsDeskRequest, IsDeskStep, NeedsMemory};
+ghost use Rattle.desk_core.specs.Desks.{desk_limits, empty_desk, first_plan, keeps, key_of, plan_at, put_first, HasSmallCursor, IsBrought, IsDeskAnswer, IsDeskQuestion, IsDeskRequest, IsDeskStep, IsMoved, NeedsMemory};
 
 use crate::pages::{page_reply, query_numbers};
 use crate::plan_key::{PlanKey, asked_key};
@@ -78,21 +78,50 @@ impl Desk {
         Some(plan)
     }
 
+    /// Whether a plan is kept under this key, where there is one.
+    fn keeps(&self, key: Option<PlanKey>) -> bool
+        ensures { result ≡ keeps self.now key }
+    {
+        match key {
+            Some(key) => self.plans.contains(&key),
+            None => false,
+        }
+    }
+
     /// What a request is tested against.
     fn limits<P: Planner>(&self, pinned: &Pinned<P>, request: &Request) -> Limits
         ensures { result ≡ desk_limits (P.version pinned.now) (P.graph pinned.now) self.now request.now }
     {
         let number = pinned.number();
-        let kept = match asked_key(number, request) {
-            Some(key) => self.plans.contains(&key),
-            None => false,
-        };
         Limits {
             vertices: pinned.prepared().vertices(),
             arcs: pinned.prepared().arcs(),
             number,
-            kept,
+            kept: self.keeps(asked_key(number, request)),
         }
+    }
+
+    /// Makes the plan of this key the last used, where it is kept, and says whether it is.
+    fn promote(&mut self, key: &PlanKey) -> bool
+        ensures kept { is_some (plan_at self.old key.now) ≡ result }
+        ensures moved { result ≡ true → IsMoved self.old key.now self.new }
+        ensures same { result ≡ false → self.new ≡ self.old }
+    {
+        prove!(self.plans.len() <= self.plans.cap().get());
+        self.plans.promote(key)
+    }
+
+    /// Keeps a plan as the last used, in place of the one used longest ago where the desk is full.
+    fn put(&mut self, alloc: Global, key: PlanKey, plan: Plan) -> Result<(), NoMemory>
+        requires { plan_at self.old key ≡ None }
+        ensures put { OnOk result (self.new ≡ put_first self.old key plan) }
+        ensures first { OnOk result (first_plan self.new ≡ Some plan) }
+        ensures err { OnErr result (self.new ≡ self.old) }
+    {
+        prove!(self.plans.len() <= self.plans.cap().get());
+        let plan = Arc::new(alloc, plan)?;
+        self.plans.put(key, plan)?;
+        Ok(())
     }
 
     /// Makes the plan of this key the last used. One that isn't kept is made in the pinned version.
@@ -109,18 +138,17 @@ impl Desk {
         ensures brought { OnOk result (IsBrought (P.graph pinned.now) query.now self.old version self.new) }
         ensures err { OnErr result (self.new ≡ self.old) }
         ensures memory { OnErr result (plan_at self.old (key_of version query.now) ≡ None) }
-        ensures idle { IsSome (plan_at self.old (key_of version query.now)) → work.new ≡ work.old }
+        ensures idle { (plan_at self.old (key_of version query.now) ≡ None → ⊥) → work.new ≡ work.old }
     {
-        prove!(self.plans.len() <= self.plans.cap().get());
         let key = PlanKey {
             version,
             query: query_numbers(query),
         };
-        if !self.plans.promote(&key) {
-            let plan = pinned.prepared().plan(alloc, work, query)?;
-            self.plans.put(key, Arc::new(alloc, plan)?)?;
+        if self.promote(&key) {
+            return Ok(());
         }
-        Ok(())
+        let plan = pinned.prepared().plan(alloc, work, query)?;
+        self.put(alloc, key, plan)
     }
 
     /// Answers what is asked.

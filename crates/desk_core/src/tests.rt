@@ -1,5 +1,7 @@
 //! Refusals in the order of the tests, what is asked, and the pages of a small plan.
 
+mod desk;
+
 use crate::{Asked, Limits, page_reply, tested};
 use road_model::{
     Cursor, CursorQuery, ErrorKind, Items, NoMemory, Optimum, PageSpan, Plan, Query, Reply,
