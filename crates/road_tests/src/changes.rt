@@ -49,10 +49,7 @@ fn a_change_is_seen_from_its_publication_on(rt: HostRuntime) -> Result<(), Fail>
             b"length 1 4294967295\npublish\noptimum 1 2\n",
             b"staged 1\npublished 2\nok 2\noptimum length 4294967295 arcs 1\nend\n",
         ),
-        (
-            b"length 1 50\nquit\npublish\n",
-            b"staged 1\n",
-        ),
+        (b"length 1 50\nquit\npublish\n", b"staged 1\n"),
     ];
     for (input, output) in rows {
         answers(&rt, rt.alloc(), SMALL, input, output)?;
@@ -80,9 +77,7 @@ fn a_refused_change_leaves_what_is_staged(rt: HostRuntime) -> Result<(), Fail> {
         input.extend_from_slice(b"length 2 9\npublish\noptimum 1 2\n")?;
         let mut output = Vec::from_slice(alloc, b"staged 1\n")?;
         output.extend_from_slice(reply)?;
-        output.extend_from_slice(
-            b"staged 2\npublished 2\nok 2\noptimum length 50 arcs 1\nend\n",
-        )?;
+        output.extend_from_slice(b"staged 2\npublished 2\nok 2\noptimum length 50 arcs 1\nend\n")?;
         answers(&rt, alloc, SMALL, &input, &output)?;
     }
     Ok(())
