@@ -37,7 +37,7 @@ use Rattle.desk_core.proofs.Passed.{passed_ok}
 use Rattle.line_front.specs.Replies.{HasItems}
 use Rattle.route_server.specs.Asking.{is_quit_request}
 use Rattle.route_server.specs.Sessions.{SessionState, state_of, versions_of, IsChange, IsMade, IsSound}
-use Rattle.route_server.proofs.ChangeLemmas.{SameSize, change_fault-push, change_fault-size}
+use Rattle.route_server.proofs.ChangeLemmas.{SameSize, after_all-size, change_fault-push, change_fault-size}
 
 -- ---- what a page shows
 
@@ -84,16 +84,18 @@ step_items g state next request r shown h = answered_items g state next request 
 
 -- ---- the tests of a change
 
-pub change_limits : (g v : Graph) (state : State) (number : ℕ) (request : Request) → SameSize g v → number ≡ newest state → IsChange request → ◌≡◌ {A = Limits} (record { vertices = v.vertices; arcs = arc_count v; number = number; kept = false }) (limits_in g state request)
-change_limits g v state number (the.Best from to) same n h = absurd h
-change_limits g v state number (the.Route q size since) same n h = absurd h
-change_limits g v state number (the.Next c) same n h = absurd h
-change_limits g v state number the.BadCursor same n h = absurd h
-change_limits g v state number (the.Why q via since) same n h = absurd h
-change_limits g v state number the.Version same n h = absurd h
-change_limits g v state number (the.Length arc length) same n h = rw (same.vertices, same.arcs, n) refl
-change_limits g v state number the.Publish same n h = rw (same.vertices, same.arcs, n) refl
-change_limits g v state number the.Quit same n h = absurd h
+pub change_limits : (s : SessionState) (v : Graph) (vertices arcs number : ℕ) (request : Request) → v ≡ after_all s.base s.batches → vertices ≡ v.vertices → arcs ≡ arc_count v → number ≡ length s.batches + 1 → IsChange request → ◌≡◌ {A = Limits} (record { vertices = vertices; arcs = arcs; number = number; kept = false }) (limits_in s.base (state_of s) request)
+change_limits s v vertices arcs number (the.Best from to) e f h n d = absurd d
+change_limits s v vertices arcs number (the.Route q size since) e f h n d = absurd d
+change_limits s v vertices arcs number (the.Next c) e f h n d = absurd d
+change_limits s v vertices arcs number the.BadCursor e f h n d = absurd d
+change_limits s v vertices arcs number (the.Why q via since) e f h n d = absurd d
+change_limits s v vertices arcs number the.Version e f h n d = absurd d
+change_limits s v vertices arcs number (the.Length arc length) e f h n d =
+    let same = after_all-size s.base s.batches in rw (f, h, n, e, same.vertices, same.arcs) refl
+change_limits s v vertices arcs number the.Publish e f h n d =
+    let same = after_all-size s.base s.batches in rw (f, h, n, e, same.vertices, same.arcs) refl
+change_limits s v vertices arcs number the.Quit e f h n d = absurd d
 
 two_passed : (a b : Bool) (k l : ErrorKind) (x y : Asked) → passed ((not a, k) ∷ (not b, l) ∷ []) x ≡ Ok y → (a ≡ true) × (b ≡ true)
 two_passed false b k l x y e = absurd (let f : ◌≡◌ {A = Result Asked ErrorKind} (Err k) (Ok y) = e in cc)
@@ -112,8 +114,10 @@ pub sound_change : (g : Graph) (state : State) (l : Limits) (request : Request) 
 sound_change g state l (the.Length arc length) t c e is ok h =
     let done : outcome (limits_in g state (the.Length arc length)) (the.Length arc length) ≡ Ok (asked.Length c) =
     ap (λ (x : Limits). outcome x (the.Length arc length)) (sym e) ∙ sym is ∙ ok in
-    let same : ◌≡◌ {A = Asked} (asked.Length (record { arc = arc; length = length })) (asked.Length c) = passed_ok _ _ _ done in
-    let range = two_passed (is_within 1 (arc_count g) arc) (is_within 1 4294967295 length) error.ArcRange error.LengthRange _ _ done in
+    let asks : Asked = asked.Length (record { arc = arc; length = length }) in
+    let same : ◌≡◌ {A = Asked} (asked.Length (record { arc = arc; length = length })) (asked.Length c) =
+    passed_ok ((not (is_within 1 (arc_count g) arc), error.ArcRange) ∷ (not (is_within 1 4294967295 length), error.LengthRange) ∷ []) asks (asked.Length c) done in
+    let range = two_passed (is_within 1 (arc_count g) arc) (is_within 1 4294967295 length) error.ArcRange error.LengthRange asks (asked.Length c) done in
     let is_change : ◌≡◌ {A = Change} (record { arc = arc; length = length }) c = cc in
     subst (λ (x : Change). fault_of g x ≡ None) is_change (in_range g (record { arc = arc; length = length }) range.0 range.1)
 sound_change g state l the.Publish t c e is ok h =
@@ -176,10 +180,13 @@ no_fault g v n staged same sound more =
     rw (change_fault-size g v staged same, sound) (let less : (n == 1048576) ≡ false = grind (arith, nat_tests) in rw less refl)
 
 -- staged changes without a fault make a version, unless memory is refused
-pub only_memory : (g v : Graph) (n : ℕ) (staged : List Change) (given : ChangeFault) → SameSize g v → change_fault g staged ≡ None → n ≢ last_version → IsRefusedAs (version_fault v n staged) given → given ≡ fault.NoMemory
-only_memory g v n staged given same sound more (inl memory) = memory
-only_memory g v n staged given same sound more (inr other) =
-    absurd (let wrong : ◌≡◌ {A = Option ChangeFault} None (Some given) = sym (no_fault g v n staged same sound more) ∙ other in cc)
+pub only_memory : (s : SessionState) (v : Graph) (n : ℕ) (staged : List Change) (given : ChangeFault) → IsSound s → v ≡ after_all s.base s.batches → n ≡ length s.batches + 1 → staged ≡ s.staged → newest (state_of s) ≢ last_version → IsRefusedAs (version_fault v n staged) given → given ≡ fault.NoMemory
+only_memory s v n staged given sound g e h more (inl memory) = memory
+only_memory s v n staged given sound g e h more (inr other) =
+    let none : version_fault (after_all s.base s.batches) (length s.batches + 1) s.staged ≡ None =
+    no_fault s.base (after_all s.base s.batches) (length s.batches + 1) s.staged (after_all-size s.base s.batches) sound.faultless more in
+    let same : version_fault v n staged ≡ None = rw (g, e, h) none in
+    absurd (let wrong : ◌≡◌ {A = Option ChangeFault} None (Some given) = sym same ∙ other in cc)
 
 -- ---- the newest version
 

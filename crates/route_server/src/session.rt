@@ -1,6 +1,6 @@
 //! The versions that one run publishes, and the desk that answers over the newest.
 
-ghost use Rattle.std.specs.Prelude.{◌≡◌, ◌≢◌, ◌++◌, [], ◌∷◌, None, option_copied, IfErr, IfOk};
+ghost use Rattle.std.specs.Prelude.{◌≡◌, ◌≢◌, ◌++◌, [], ◌∷◌, false, None, option_copied, IfErr, IfOk};
 ghost use Rattle.road_model.specs.declared.change.ChangeFault.TheVariants as fault;
 ghost use Rattle.road_model.specs.Changes.{fault_of};
 ghost use Rattle.road_model.specs.Versions.{last_version};
@@ -111,8 +111,10 @@ impl<V: Version + Drop> Session<V> {
         ensures history { IfOk result (λ v. V.history v ≡ self.now.batches ++ self.now.staged ∷ []) }
         ensures memory { IfErr result (λ e. e ≡ fault.NoMemory) }
     {
-        let version = self.newest.prepared().after(alloc, self.staged.as_slice())?;
-        Ok(Pinned::of(Arc::new(alloc, version)?))
+        match self.newest.prepared().after(alloc, self.staged.as_slice()) {
+            Ok(version) => Ok(Pinned::of(Arc::new(alloc, version)?)),
+            Err(fault) => Err(fault),
+        }
     }
 
     /// Makes what is staged a new version.
