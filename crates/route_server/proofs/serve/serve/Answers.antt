@@ -1,4 +1,5 @@
 use Rattle.std.proofs.Common.{refl, ap, arith, ◌∙◌}
+use Rattle.route_server.specs.declared.serve.Served.TheVariants as served
 use Rattle.route_server.specs.Sessions.{SessionState, state_of}
 use Rattle.route_server.proofs.ReadingLemmas.{reads_start, reads_more, reads_over}
 use Rattle.route_server.proofs.SendingLemmas.{serves_over}
@@ -26,7 +27,7 @@ lines-init g c = (
 pub lines-preserved : goal.lines-preserved
 lines-preserved g c = (
   c.in-More.ensures.longest,
-  runs_more (g.V.Version.base c.args.version) (state_of c.lines.session) (state_of c.serve_one.new.session) c.lines.reader c.next_line.new.reader c.in-More.asked _ _ _ _ _ _ c.lines.invariant.1 c.in-More.ensures.goes (serves_over _ _ _ _ _ _ _ _ c.lines.invariant.4 c.in-Written.ensures.serves),
+  runs_more (g.V.Version.base c.args.version) (state_of c.lines.session) (state_of c.serve_one.new.session) c.lines.reader c.next_line.new.reader c.in-More.asked _ _ _ _ _ _ c.lines.invariant.1 c.in-More.ensures.goes (serves_over _ _ (state_of c.lines.session) (state_of c.serve_one.new.session) c.in-More.asked _ _ served.Written c.lines.invariant.4 c.in-Written.ensures.serves),
   omega (arith, c.lines.invariant.2, c.in-More.ensures.count),
   omega (arith, c.lines.invariant.3, c.in-Written.ensures.count),
   c.in-Written.ensures.base ∙ c.lines.invariant.4,
@@ -37,15 +38,15 @@ lines-preserved g c = (
 
 pub returns-in-Quit-clause-stops : goal.returns-in-Quit-clause-stops
 returns-in-Quit-clause-stops g c =
-    ends_quit (g.V.Version.base c.args.version) (state_of c.lines.session) (state_of c.serve_one.new.session) c.lines.reader c.next_line.new.reader c.in-More.asked _ _ _ _ _ _ c.lines.invariant.1 c.in-More.ensures.goes (serves_over _ _ _ _ _ _ _ _ c.lines.invariant.4 c.in-Quit.ensures.serves)
+    ends_quit (g.V.Version.base c.args.version) (state_of c.lines.session) (state_of c.serve_one.new.session) c.lines.reader c.next_line.new.reader c.in-More.asked _ _ _ _ _ _ c.lines.invariant.1 c.in-More.ensures.goes (serves_over _ _ (state_of c.lines.session) (state_of c.serve_one.new.session) c.in-More.asked _ _ served.Quit c.lines.invariant.4 c.in-Quit.ensures.serves)
 
 pub returns-in-WriteFault-clause-stops : goal.returns-in-WriteFault-clause-stops
 returns-in-WriteFault-clause-stops g c =
-    ends_more_fault (g.V.Version.base c.args.version) (state_of c.lines.session) (state_of c.serve_one.new.session) c.lines.reader c.next_line.new.reader c.in-More.asked _ _ _ _ _ _ c.lines.invariant.1 c.in-More.ensures.goes (serves_over _ _ _ _ _ _ _ _ c.lines.invariant.4 c.in-WriteFault.ensures.serves)
+    ends_more_fault (g.V.Version.base c.args.version) (state_of c.lines.session) (state_of c.serve_one.new.session) c.lines.reader c.next_line.new.reader c.in-More.asked _ _ _ _ _ _ c.lines.invariant.1 c.in-More.ensures.goes (serves_over _ _ (state_of c.lines.session) (state_of c.serve_one.new.session) c.in-More.asked _ _ served.WriteFault c.lines.invariant.4 c.in-WriteFault.ensures.serves)
 
 pub returns-in-NoMemory-clause-stops : goal.returns-in-NoMemory-clause-stops
 returns-in-NoMemory-clause-stops g c =
-    ends_more_memory (g.V.Version.base c.args.version) (state_of c.lines.session) (state_of c.serve_one.new.session) c.lines.reader c.next_line.new.reader c.in-More.asked _ _ _ _ _ _ c.lines.invariant.1 c.in-More.ensures.goes (serves_over _ _ _ _ _ _ _ _ c.lines.invariant.4 c.in-NoMemory.ensures.serves)
+    ends_more_memory (g.V.Version.base c.args.version) (state_of c.lines.session) (state_of c.serve_one.new.session) c.lines.reader c.next_line.new.reader c.in-More.asked _ _ _ _ _ _ c.lines.invariant.1 c.in-More.ensures.goes (serves_over _ _ (state_of c.lines.session) (state_of c.serve_one.new.session) c.in-More.asked _ _ served.NoMemory c.lines.invariant.4 c.in-NoMemory.ensures.serves)
 
 pub returns-in-End-clause-stops : goal.returns-in-End-clause-stops
 returns-in-End-clause-stops g c =
@@ -61,19 +62,19 @@ returns-in-Failed-clause-stops g c =
 
 pub returns-in-Written-serve_one-clause-stops : goal.returns-in-Written-serve_one-clause-stops
 returns-in-Written-serve_one-clause-stops g c =
-    ends_last (g.V.Version.base c.args.version) (state_of c.lines.session) (state_of c.serve_one-in-Last.new.session) c.lines.reader c.next_line.new.reader c.in-Last.asked _ _ _ _ _ _ c.lines.invariant.1 c.in-Last.ensures.goes (serves_over _ _ _ _ _ _ _ _ c.lines.invariant.4 c.in-Written-serve_one.ensures.serves)
+    ends_last (g.V.Version.base c.args.version) (state_of c.lines.session) (state_of c.serve_one-in-Last.new.session) c.lines.reader c.next_line.new.reader c.in-Last.asked _ _ _ _ _ _ c.lines.invariant.1 c.in-Last.ensures.goes (serves_over _ _ (state_of c.lines.session) (state_of c.serve_one-in-Last.new.session) c.in-Last.asked _ _ served.Written c.lines.invariant.4 c.in-Written-serve_one.ensures.serves)
 
 pub returns-in-Quit-serve_one-clause-stops : goal.returns-in-Quit-serve_one-clause-stops
 returns-in-Quit-serve_one-clause-stops g c =
-    ends_last_quit (g.V.Version.base c.args.version) (state_of c.lines.session) (state_of c.serve_one-in-Last.new.session) c.lines.reader c.next_line.new.reader c.in-Last.asked _ _ _ _ _ _ c.lines.invariant.1 c.in-Last.ensures.goes (serves_over _ _ _ _ _ _ _ _ c.lines.invariant.4 c.in-Quit-serve_one.ensures.serves)
+    ends_last_quit (g.V.Version.base c.args.version) (state_of c.lines.session) (state_of c.serve_one-in-Last.new.session) c.lines.reader c.next_line.new.reader c.in-Last.asked _ _ _ _ _ _ c.lines.invariant.1 c.in-Last.ensures.goes (serves_over _ _ (state_of c.lines.session) (state_of c.serve_one-in-Last.new.session) c.in-Last.asked _ _ served.Quit c.lines.invariant.4 c.in-Quit-serve_one.ensures.serves)
 
 pub returns-in-WriteFault-serve_one-clause-stops : goal.returns-in-WriteFault-serve_one-clause-stops
 returns-in-WriteFault-serve_one-clause-stops g c =
-    ends_last_fault (g.V.Version.base c.args.version) (state_of c.lines.session) (state_of c.serve_one-in-Last.new.session) c.lines.reader c.next_line.new.reader c.in-Last.asked _ _ _ _ _ _ c.lines.invariant.1 c.in-Last.ensures.goes (serves_over _ _ _ _ _ _ _ _ c.lines.invariant.4 c.in-WriteFault-serve_one.ensures.serves)
+    ends_last_fault (g.V.Version.base c.args.version) (state_of c.lines.session) (state_of c.serve_one-in-Last.new.session) c.lines.reader c.next_line.new.reader c.in-Last.asked _ _ _ _ _ _ c.lines.invariant.1 c.in-Last.ensures.goes (serves_over _ _ (state_of c.lines.session) (state_of c.serve_one-in-Last.new.session) c.in-Last.asked _ _ served.WriteFault c.lines.invariant.4 c.in-WriteFault-serve_one.ensures.serves)
 
 pub returns-in-NoMemory-serve_one-clause-stops : goal.returns-in-NoMemory-serve_one-clause-stops
 returns-in-NoMemory-serve_one-clause-stops g c =
-    ends_last_memory (g.V.Version.base c.args.version) (state_of c.lines.session) (state_of c.serve_one-in-Last.new.session) c.lines.reader c.next_line.new.reader c.in-Last.asked _ _ _ _ _ _ c.lines.invariant.1 c.in-Last.ensures.goes (serves_over _ _ _ _ _ _ _ _ c.lines.invariant.4 c.in-NoMemory-serve_one.ensures.serves)
+    ends_last_memory (g.V.Version.base c.args.version) (state_of c.lines.session) (state_of c.serve_one-in-Last.new.session) c.lines.reader c.next_line.new.reader c.in-Last.asked _ _ _ _ _ _ c.lines.invariant.1 c.in-Last.ensures.goes (serves_over _ _ (state_of c.lines.session) (state_of c.serve_one-in-Last.new.session) c.in-Last.asked _ _ served.NoMemory c.lines.invariant.4 c.in-NoMemory-serve_one.ensures.serves)
 
 pub returns-in-Over-clause-long : goal.returns-in-Over-clause-long
 returns-in-Over-clause-long g c e =
