@@ -10,3 +10,4 @@ pub mod WholePaths
 pub mod CanonicalExists
 pub mod CanonicalParts
 pub mod ThroughVertex
+pub mod KeptSteps

@@ -2,10 +2,12 @@
 //! read backwards from a vertex that is reached, or forwards to the target, are least in dictionary order.
 //!
 //! A tree keeps labels and no arcs, in a memory that serves many queries. The arc of a vertex is found by a scan of
-//! its arcs, at the first that is tight.
+//! its arcs, at the first that is tight. A pair keeps the arcs that were found so where it is told to, so that a vertex
+//! of many arcs is scanned once and not once for each of its neighbours.
 #![tactic(auto)]
 
 mod descent;
+mod kept;
 mod path;
 #[cfg(test)]
 mod tests;

@@ -5,37 +5,44 @@ ghost use Rattle.road_model.specs.Graph.{IsVertex, reversed};
 ghost use Rattle.road_model.specs.Canonical.{IsFirst, IsOptimum};
 ghost use Rattle.tree_search.specs.Ball.{label_at};
 ghost use Rattle.canonical_trees.specs.Tight.{IsRooted};
+ghost use Rattle.canonical_trees.specs.Kept.{AreSteps};
 ghost use Rattle.canonical_trees.specs.Trees.{IsViaPath};
 
 use crate::descent::follow;
+use crate::kept::{KeptStep, no_steps};
 use crate::tree_memory::TreeMemory;
 use crate::tree_pair::TreePair;
 use forward_star::Star;
 use road_model::{ArcList, ArcNo, NoMemory, Optimum, Vertex};
+use stamped_table::Table;
 use std::alloc::Global;
 use tree_search::Labels;
 use tree_search::search::labels_to;
 
-/// The canonical path from `s` to `v`, by the labels of a search from `s`. It is found from its end.
+/// The canonical path from `s` to `v`, by the labels of a search from `s` and the steps that are kept. It is found from
+/// its end.
 pub(crate) fn path_from(
     alloc: Global,
     star: &Star,
     labels: &Labels<'_>,
+    steps: &Table<KeptStep>,
     s: Vertex,
     v: Vertex,
 ) -> Result<Vec<ArcNo>, NoMemory>
     requires rooted { IsRooted (reversed star.now) s labels.now }
+    requires steps { AreSteps (reversed star.now) s labels.now steps.now }
     requires labelled { IsSome (label_at labels.now v) }
     ensures { IfOk result (λ arcs. IsFirst star.now s arcs.items v) }
 {
     let mut arcs = Vec::new(alloc);
-    follow(&star.reversed(), labels, s, v, &mut arcs)?;
+    follow(&star.reversed(), labels, steps, s, v, &mut arcs)?;
     arcs.reverse();
     Ok(arcs)
 }
 
 /// The canonical path from the source to `v`, followed by the one from `v` to the target. None where `v` is outside
-/// one of the balls. Takes the time of the arcs at the vertices of the path, and 4 bytes an arc.
+/// one of the balls. Takes constant time for each vertex of the path whose steps are kept, and that of its arcs for
+/// each other one; 4 bytes an arc.
 pub fn via_path(alloc: Global, pair: &TreePair<'_>, v: Vertex) -> Result<Option<ArcList>, NoMemory>
     ensures { IfOk result (λ path. IsViaPath pair.now v path) }
 {
@@ -88,7 +95,7 @@ pub fn optimum_in(
         return Ok(None);
     };
     let labels = Labels::new(&memory.from.labels, length);
-    let arcs = path_from(alloc, star, &labels, s, t)?;
+    let arcs = path_from(alloc, star, &labels, &no_steps(alloc), s, t)?;
     Ok(Some(Optimum {
         length,
         arcs: ArcList::from_vec(arcs),

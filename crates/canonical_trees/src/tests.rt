@@ -30,6 +30,9 @@ static LONG: [Arc; 3] = [(1, 2, 4294967295), (2, 3, 4294967295), (3, 3, 42949672
 
 static BARE: [Arc; 0] = [];
 
+// No step is kept, none, those of the optimum in A, those of other paths too, and all.
+const MOST: [Option<u64>; 5] = [None, Some(0), Some(20), Some(22), Some(u64::MAX)];
+
 #[derive(Clone, Copy)]
 enum Name {
     A,
@@ -140,7 +143,14 @@ fn finds_the_optimum(rt: HostRuntime) -> Result<(), Fail> {
     Ok(())
 }
 
-fn through(alloc: Global, name: Name, radius: Option<u64>, via: u32) -> Result<String, Fail> {
+// The path through a vertex, where the steps are kept of those whose paths are at most so long.
+fn through(
+    alloc: Global,
+    name: Name,
+    radius: Option<u64>,
+    via: u32,
+    most: Option<u64>,
+) -> Result<String, Fail> {
     let star = star_of(alloc, name)?;
     let to = vertices_of(name);
     if !is_vertex(&star, 1) {
@@ -149,7 +159,10 @@ fn through(alloc: Global, name: Name, radius: Option<u64>, via: u32) -> Result<S
     if !is_vertex(&star, to) {
         return Err("no vertex to end at".into());
     }
-    let pair = trees(alloc, &star, Vertex(1), Vertex(to), radius)?;
+    let mut pair = trees(alloc, &star, Vertex(1), Vertex(to), radius)?;
+    if let Some(most) = most {
+        pair.keep_steps(most)?;
+    }
     match via_path(alloc, &pair, Vertex(via))? {
         Some(path) => text_of(alloc, path.as_slice()),
         None => Ok(format!(in alloc; "none")?),
@@ -174,14 +187,23 @@ fn finds_paths_through_vertices(rt: HostRuntime) -> Result<(), Fail> {
         (Name::OneVertex, Some(0), 1, ""),
     ];
     for (name, radius, via, wanted) in rows {
-        let found = through(rt.alloc(), name, radius, via)?;
-        assert_eq!(rt; found.as_str(), wanted);
+        for most in MOST {
+            let found = through(rt.alloc(), name, radius, via, most)?;
+            assert_eq!(rt; found.as_str(), wanted);
+        }
     }
     Ok(())
 }
 
-// How many arcs the path through a vertex has, from 1 to the last one, by trees in a kept memory.
-fn kept(alloc: Global, memory: &mut TreeMemory, star: &Star, via: u32) -> Result<usize, Fail> {
+// How many arcs the path through a vertex has, from 1 to the last one, by trees in a kept memory. The trees keep their
+// steps if they are asked to.
+fn kept(
+    alloc: Global,
+    memory: &mut TreeMemory,
+    star: &Star,
+    via: u32,
+    keeps: bool,
+) -> Result<usize, Fail> {
     let to = star.graph().vertices();
     if !is_vertex(star, 1) {
         return Err("no vertex to begin at".into());
@@ -189,7 +211,10 @@ fn kept(alloc: Global, memory: &mut TreeMemory, star: &Star, via: u32) -> Result
     if !is_vertex(star, to) {
         return Err("no vertex to end at".into());
     }
-    let pair = trees_in(alloc, memory, star, Vertex(1), Vertex(to), None)?;
+    let mut pair = trees_in(alloc, memory, star, Vertex(1), Vertex(to), None)?;
+    if keeps {
+        pair.keep_steps(25)?;
+    }
     let path = via_path(alloc, &pair, Vertex(via))?;
     *memory = pair.into_memory();
     Ok(path.map_or(0, |arcs| arcs.len()))
@@ -200,9 +225,11 @@ fn serves_graphs_of_two_sizes_in_one_memory(rt: HostRuntime) -> Result<(), Fail>
     let large = star_of(rt.alloc(), Name::A)?;
     let small = star_of(rt.alloc(), Name::D)?;
     let mut memory = TreeMemory::new(rt.alloc());
-    assert_eq!(rt; kept(rt.alloc(), &mut memory, &large, 4)?, 3);
-    assert_eq!(rt; kept(rt.alloc(), &mut memory, &large, 2)?, 2);
-    assert_eq!(rt; kept(rt.alloc(), &mut memory, &small, 1)?, 2);
+    assert_eq!(rt; kept(rt.alloc(), &mut memory, &large, 4, true)?, 3);
+    assert_eq!(rt; kept(rt.alloc(), &mut memory, &large, 2, false)?, 2);
+    assert_eq!(rt; kept(rt.alloc(), &mut memory, &large, 4, true)?, 3);
+    assert_eq!(rt; kept(rt.alloc(), &mut memory, &small, 1, false)?, 2);
+    assert_eq!(rt; kept(rt.alloc(), &mut memory, &small, 4, true)?, 2);
     Ok(())
 }
 
@@ -253,7 +280,7 @@ fn halves(alloc: Global, star: &Star, radius: u64) -> Result<TreePair<'_>, Fail>
 #[test]
 fn shows_labels_members_and_arcs(rt: HostRuntime) -> Result<(), Fail> {
     let star = star_of(rt.alloc(), Name::A)?;
-    let pair = halves(rt.alloc(), &star, 17)?;
+    let mut pair = halves(rt.alloc(), &star, 17)?;
     let rows = [
         (0, "- - - -"),
         (1, "0 - - -"),
@@ -264,9 +291,14 @@ fn shows_labels_members_and_arcs(rt: HostRuntime) -> Result<(), Fail> {
         (6, "- 0 - -"),
         (7, "- - - -"),
     ];
-    for (v, wanted) in rows {
-        let found = row_text(rt.alloc(), &pair, v)?;
-        assert_eq!(rt; found.as_str(), wanted);
+    for most in MOST {
+        if let Some(most) = most {
+            pair.keep_steps(most)?;
+        }
+        for (v, wanted) in rows {
+            let found = row_text(rt.alloc(), &pair, v)?;
+            assert_eq!(rt; found.as_str(), wanted);
+        }
     }
     let near = members_text(rt.alloc(), pair.from_members())?;
     assert_eq!(rt; near.as_str(), " 1 2 3 4");

@@ -1,14 +1,19 @@
+use crate::kept::{KeptStep, no_steps};
+use stamped_table::Table;
 use std::alloc::Global;
 use std::marker::Model;
 use tree_search::SearchMemory;
 
-/// The memory of the two searches of a query, for one query after another. It tells nothing of the queries before.
+/// The memory of the two searches of a query, and of the steps that it keeps, for one query after another. It tells
+/// nothing of the queries before.
 ///
-/// It keeps 16 bytes a vertex, and what the largest searches so far needed.
+/// It keeps 16 bytes a vertex, 32 more once steps were kept, and what the largest searches so far needed.
 #[derive(Drop)]
 pub struct TreeMemory {
     pub(crate) from: SearchMemory,
     pub(crate) to: SearchMemory,
+    pub(crate) from_steps: Table<KeptStep>,
+    pub(crate) to_steps: Table<KeptStep>,
 }
 
 impl Model for TreeMemory {
@@ -28,6 +33,8 @@ impl TreeMemory {
         TreeMemory {
             from: SearchMemory::new(alloc),
             to: SearchMemory::new(alloc),
+            from_steps: no_steps(alloc),
+            to_steps: no_steps(alloc),
         }
     }
 }

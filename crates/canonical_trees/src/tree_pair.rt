@@ -8,15 +8,17 @@ ghost use Rattle.canonical_trees.specs.Tight.{Adds};
 ghost use Rattle.canonical_trees.specs.Trees.{IsInside, IsLabel, IsMembersFrom, IsMembersTo, IsSearched};
 ghost use Rattle.canonical_trees.specs.Trees.{IsFromStep, IsToStep, IsFromArc, IsToArc};
 
-use crate::descent::{follow, step_down};
+use crate::descent::{follow, keep_near, step_at};
+use crate::kept::{KeptStep, emptied, no_steps};
 use crate::path::path_from;
 use crate::tree_memory::TreeMemory;
 use forward_star::Star;
 use road_model::{ArcNo, NoMemory, Step, Vertex, VertexList};
+use stamped_table::Table;
 use std::alloc::Global;
 use std::marker::Model;
 use tree_search::search::ball_in;
-use tree_search::{Ball, SearchMemory};
+use tree_search::{Ball, Labels, SearchMemory};
 
 /// No distance of a star is as long as this.
 const ABOVE_ALL: u64 = 144115188075855872;
@@ -28,16 +30,18 @@ pub struct FromTree<'a> {
     source: Vertex,
     radius: Option<u64>,
     ball: Ball,
+    steps: Table<KeptStep>,
 }
 
 impl<'a> Model for FromTree<'a> {
-    ghost use Rattle.canonical_trees.specs.Trees.{Tree, IsTreeFrom};
+    ghost use Rattle.canonical_trees.specs.Trees.{Tree};
+    ghost use Rattle.canonical_trees.specs.Kept.{IsFromTree};
 
     ghost Value = { Tree };
 
     ghost view = { λ t. record { graph = t.star.now; root = t.source; radius = t.radius } };
 
-    ghost invariant = { λ t. IsTreeFrom t.star.now t.source t.radius t.ball };
+    ghost invariant = { λ t. IsFromTree t.star.now t.source t.radius t.ball t.steps };
 }
 
 /// The canonical paths to a target, from the vertices within a radius.
@@ -47,16 +51,18 @@ pub struct ToTree<'a> {
     target: Vertex,
     radius: Option<u64>,
     ball: Ball,
+    steps: Table<KeptStep>,
 }
 
 impl<'a> Model for ToTree<'a> {
-    ghost use Rattle.canonical_trees.specs.Trees.{Tree, IsTreeTo};
+    ghost use Rattle.canonical_trees.specs.Trees.{Tree};
+    ghost use Rattle.canonical_trees.specs.Kept.{IsToTree};
 
     ghost Value = { Tree };
 
     ghost view = { λ t. record { graph = t.star.now; root = t.target; radius = t.radius } };
 
-    ghost invariant = { λ t. IsTreeTo t.star.now t.target t.radius t.ball };
+    ghost invariant = { λ t. IsToTree t.star.now t.target t.radius t.ball t.steps };
 }
 
 /// A radius above every distance is none, so that a search may take any.
@@ -81,14 +87,16 @@ pub fn tree_from<'a>(
         (λ tree. tree ≡ record { graph = star.now; root = s; radius = radius }) }
 {
     let mut memory = SearchMemory::new(alloc);
-    let tree = tree_from_in(alloc, &mut memory, star, s, radius)?;
+    let mut steps = no_steps(alloc);
+    let tree = tree_from_in(alloc, &mut memory, &mut steps, star, s, radius)?;
     Ok(tree)
 }
 
-/// The same in a kept memory, which `FromTree::into_memory` gives back.
+/// The same in a kept memory, which `FromTree::into_memory` gives back. No step of an earlier tree is kept.
 fn tree_from_in<'a>(
     alloc: Global,
     memory: &mut SearchMemory,
+    steps: &mut Table<KeptStep>,
     star: &'a Star,
     s: Vertex,
     radius: Option<u64>,
@@ -101,11 +109,13 @@ fn tree_from_in<'a>(
 {
     let _limits = star.graph();
     let ball = ball_in(alloc, memory, star, s, searched(radius))?;
+    let steps = emptied(alloc, steps)?;
     Ok(FromTree {
         star,
         source: s,
         radius,
         ball,
+        steps,
     })
 }
 
@@ -121,14 +131,16 @@ pub fn tree_to<'a>(
         (λ tree. tree ≡ record { graph = star.now; root = t; radius = radius }) }
 {
     let mut memory = SearchMemory::new(alloc);
-    let tree = tree_to_in(alloc, &mut memory, star, t, radius)?;
+    let mut steps = no_steps(alloc);
+    let tree = tree_to_in(alloc, &mut memory, &mut steps, star, t, radius)?;
     Ok(tree)
 }
 
-/// The same in a kept memory, which `ToTree::into_memory` gives back.
+/// The same in a kept memory, which `ToTree::into_memory` gives back. No step of an earlier tree is kept.
 fn tree_to_in<'a>(
     alloc: Global,
     memory: &mut SearchMemory,
+    steps: &mut Table<KeptStep>,
     star: &'a Star,
     t: Vertex,
     radius: Option<u64>,
@@ -141,11 +153,13 @@ fn tree_to_in<'a>(
 {
     let _limits = star.graph();
     let ball = ball_in(alloc, memory, &star.reversed(), t, searched(radius))?;
+    let steps = emptied(alloc, steps)?;
     Ok(ToTree {
         star,
         target: t,
         radius,
         ball,
+        steps,
     })
 }
 
@@ -187,8 +201,15 @@ pub fn trees_in<'a>(
     ensures { IfOk result
         (λ pair. pair ≡ record { graph = star.now; source = s; target = t; radius = radius }) }
 {
-    let from = tree_from_in(alloc, &mut memory.from, star, s, radius)?;
-    let to = tree_to_in(alloc, &mut memory.to, star, t, radius)?;
+    let from = tree_from_in(
+        alloc,
+        &mut memory.from,
+        &mut memory.from_steps,
+        star,
+        s,
+        radius,
+    )?;
+    let to = tree_to_in(alloc, &mut memory.to, &mut memory.to_steps, star, t, radius)?;
     Ok(TreePair::of(from, to))
 }
 
@@ -216,7 +237,13 @@ impl FromTree<'_> {
     fn step(&self, v: Vertex) -> Option<Step>
         ensures { IsFromStep self.now.graph self.now.radius self.now.root v result }
     {
-        step_down(&self.star.reversed(), &self.ball.labels(), self.source, v)
+        step_at(
+            &self.star.reversed(),
+            &self.ball.labels(),
+            &self.steps,
+            self.source,
+            v,
+        )
     }
 
     fn path(&self, alloc: Global, v: Vertex) -> Result<Vec<ArcNo>, NoMemory>
@@ -224,19 +251,50 @@ impl FromTree<'_> {
         ensures path { IfOk result (λ arcs. IsFirst self.now.graph self.now.root arcs.items v) }
         ensures vertex { IsVertex self.now.graph.vertices v }
     {
-        path_from(alloc, self.star, &self.ball.labels(), self.source, v)
+        path_from(
+            alloc,
+            self.star,
+            &self.ball.labels(),
+            &self.steps,
+            self.source,
+            v,
+        )
     }
 
-    fn into_memory(self) -> SearchMemory
-        ensures { IsTracked result.labels.items result.touched.items }
+    fn labels(&self) -> Labels<'_> {
+        self.ball.labels()
+    }
+
+    /// Keeps the steps of the vertices whose labels, with the others, sum to at most `most`.
+    fn keep_steps(&mut self, others: &Labels<'_>, most: u64) -> Result<(), NoMemory>
+        ensures { self.new ≡ self.old }
+    {
+        let star = self.star;
+        let places = star.graph().vertices() as usize + 1;
+        self.steps.empty(places)?;
+        keep_near(
+            &star.reversed(),
+            &self.ball.labels(),
+            others,
+            self.ball.members().as_slice(),
+            most,
+            self.source,
+            &mut self.steps,
+        );
+        Ok(())
+    }
+
+    fn into_memory(self) -> (SearchMemory, Table<KeptStep>)
+        ensures { IsTracked result.0.labels.items result.0.touched.items }
     {
         let FromTree {
             star: _,
             source: _,
             radius: _,
             ball,
+            steps,
         } = self;
-        ball.into_memory()
+        (ball.into_memory(), steps)
     }
 }
 
@@ -264,30 +322,63 @@ impl ToTree<'_> {
     fn step(&self, v: Vertex) -> Option<Step>
         ensures { IsToStep self.now.graph self.now.radius v self.now.root result }
     {
-        step_down(self.star, &self.ball.labels(), self.target, v)
+        step_at(self.star, &self.ball.labels(), &self.steps, self.target, v)
     }
 
     fn add_path(&self, v: Vertex, arcs: &mut Vec<ArcNo>) -> Result<(), NoMemory>
         requires { IsInside self.now.graph self.now.radius v self.now.root }
         ensures { OnOk result (Adds self.now.graph self.now.root v arcs.old.items arcs.new.items) }
     {
-        follow(self.star, &self.ball.labels(), self.target, v, arcs)
+        follow(
+            self.star,
+            &self.ball.labels(),
+            &self.steps,
+            self.target,
+            v,
+            arcs,
+        )
     }
 
-    fn into_memory(self) -> SearchMemory
-        ensures { IsTracked result.labels.items result.touched.items }
+    fn labels(&self) -> Labels<'_> {
+        self.ball.labels()
+    }
+
+    /// Keeps the steps of the vertices whose labels, with the others, sum to at most `most`.
+    fn keep_steps(&mut self, others: &Labels<'_>, most: u64) -> Result<(), NoMemory>
+        ensures { self.new ≡ self.old }
+    {
+        let star = self.star;
+        let places = star.graph().vertices() as usize + 1;
+        self.steps.empty(places)?;
+        keep_near(
+            star,
+            &self.ball.labels(),
+            others,
+            self.ball.members().as_slice(),
+            most,
+            self.target,
+            &mut self.steps,
+        );
+        Ok(())
+    }
+
+    fn into_memory(self) -> (SearchMemory, Table<KeptStep>)
+        ensures { IsTracked result.0.labels.items result.0.touched.items }
     {
         let ToTree {
             star: _,
             target: _,
             radius: _,
             ball,
+            steps,
         } = self;
-        ball.into_memory()
+        (ball.into_memory(), steps)
     }
 }
 
 /// The tree from a source and the tree to a target, in one star, of one radius.
+///
+/// It has 16 bytes a vertex, and 32 more once it keeps steps (`keep_steps`).
 #[derive(Drop)]
 pub struct TreePair<'a> {
     from: FromTree<'a>,
@@ -326,12 +417,30 @@ impl<'a> TreePair<'a> {
         TreePair { from, to }
     }
 
-    /// The memory of the two searches back, for another query. Takes no memory.
+    /// Looks the steps up of the vertices in both balls whose two distances sum to at most `most`, and keeps them:
+    /// a step or a path of such a vertex then takes constant time an arc. It changes no answer.
+    ///
+    /// Takes one pass over the balls, and one scan of the arcs into each of these vertices, and of those out of it;
+    /// 32 bytes a vertex of the star only where the memory kept no steps in a star with as many vertices before. After
+    /// an `Err` the pair is as it was, and some of its steps may be kept.
+    pub fn keep_steps(&mut self, most: u64) -> Result<(), NoMemory>
+        ensures { self.new ≡ self.old }
+    {
+        self.from.keep_steps(&self.to.labels(), most)?;
+        self.to.keep_steps(&self.from.labels(), most)?;
+        Ok(())
+    }
+
+    /// The memory of the two searches and of the steps back, for another query. Takes no memory.
     pub fn into_memory(self) -> TreeMemory {
         let TreePair { from, to } = self;
+        let (from, from_steps) = from.into_memory();
+        let (to, to_steps) = to.into_memory();
         TreeMemory {
-            from: from.into_memory(),
-            to: to.into_memory(),
+            from,
+            to,
+            from_steps,
+            to_steps,
         }
     }
 
@@ -366,15 +475,15 @@ impl<'a> TreePair<'a> {
     }
 
     /// The last arc of the canonical path from the source, seen from `v`: its `head` is the vertex before. None
-    /// outside the ball, and at the source. Takes the time of the arcs into `v`.
+    /// outside the ball, and at the source. Takes constant time where the step is kept, else that of the arcs into `v`.
     pub fn from_step(&self, v: Vertex) -> Option<Step>
         ensures { IsFromStep self.now.graph self.now.radius self.now.source v result }
     {
         self.from.step(v)
     }
 
-    /// The first arc of the canonical path to the target. None outside the ball, and at the target. Takes the time
-    /// of the arcs out of `v`.
+    /// The first arc of the canonical path to the target. None outside the ball, and at the target. Takes constant
+    /// time where the step is kept, else that of the arcs out of `v`.
     pub fn to_step(&self, v: Vertex) -> Option<Step>
         ensures { IsToStep self.now.graph self.now.radius v self.now.target result }
     {

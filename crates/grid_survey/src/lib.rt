@@ -82,7 +82,7 @@ impl Summary {
 /// another, and counts what the answers hold. The same numbers give the same summary everywhere.
 ///
 /// A query leads from the vertex of one word to that of the next, with the usual ratios. A survey takes the time of its
-/// answers. The grid takes 40 bytes an arc and 8 a vertex. Besides, 88 bytes a vertex are kept for searches and plans,
+/// answers. The grid takes 40 bytes an arc and 8 a vertex. Besides, 120 bytes a vertex are kept for searches and plans,
 /// with what the largest searches so far needed, and the memory of one answer at a time.
 pub fn survey(
     alloc: Global,

@@ -2,11 +2,14 @@
 //! error how it ended.
 #![tactic(auto)]
 
+mod progress;
+
 ghost use Rattle.std.specs.Prelude.{◌≡◌, ◌≢◌};
 
+use crate::progress::{TellingShelf, TellingSource, Watch};
 use road_io::{FileShelf, StdinSource, StdoutSink};
 use route_server::{Status, run};
-use std::io::ErrorKind;
+use std::io::{ErrorKind, IsTerminal};
 use std::process::ExitCode;
 use std::{env, io};
 
@@ -67,8 +70,9 @@ fn main(rt: HostRuntime) -> ExitCode {
             return ExitCode::from(status.number());
         }
     };
-    let mut shelf = FileShelf::new(&rt);
-    let mut input = StdinSource::new(&rt);
+    let watch = Watch::start(&rt, rt.stderr().is_terminal());
+    let mut shelf = TellingShelf::new(&rt, watch, FileShelf::new(&rt));
+    let mut input = TellingSource::new(&rt, watch, StdinSource::new(&rt));
     let mut output = StdoutSink::new(&rt);
     let status = run(&rt, rt.alloc(), &words, &mut shelf, &mut input, &mut output);
     if status != Status::Done {

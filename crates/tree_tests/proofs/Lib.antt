@@ -1,7 +1,6 @@
 pub mod UpSteps
 pub mod Climbs
 pub mod Halves
-pub mod Stamps
 pub mod Repeats
 pub mod OnPaths
 pub mod Pieces

@@ -13,7 +13,7 @@ use Rattle.tree_tests.specs.declared.ancestors.Ancestor.{Ancestor}
 use Rattle.tree_tests.specs.declared.ancestors.Two.{Two}
 use Rattle.tree_tests.specs.Sums.{TreePath, TreeDist}
 use Rattle.tree_tests.specs.Ancestors.{IsOn, IsParent, IsAncestor, IsEntry, AreAncestors, IsLifted, AreLifted, AreHigher, IsMet, IsAhead}
-use Rattle.tree_tests.specs.Tables.{IsEmpty}
+use Rattle.stamped_table.specs.Tables.{IsEmpty}
 use Rattle.tree_tests.proofs.UpSteps.{TreePath-unique}
 
 pub on_from : (ts : Trees) (v : ℕ) (o : Option Step) (x : Step) → IsFromStep ts.graph ts.radius ts.source v o → o ≡ Some x → IsOn ts Source x.head v

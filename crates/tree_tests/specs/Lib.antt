@@ -1,4 +1,3 @@
 pub mod Sums
 pub mod Ancestors
 pub mod Never
-pub mod Tables

@@ -8,7 +8,7 @@ ghost use Rattle.tree_tests.specs.declared.sides.Side.{Side as Which};
 ghost use Rattle.tree_tests.specs.Ancestors.{IsParent, IsEntry, AreAncestors, AreHigher, IsAhead, IsLifted, IsMet, IsOn};
 
 use crate::sides::Side;
-use crate::table::{Stamped, Table};
+use stamped_table::{Stamped, Table};
 use canonical_trees::TreePair;
 use road_model::{NoMemory, Vertex};
 use std::mem::size_of;

@@ -6,7 +6,6 @@ mod ancestors;
 mod refusals;
 mod sides;
 mod sums;
-mod table;
 
 pub use refusals::{Refusals, WayTables};
 pub use sums::{SharedSums, SumTables};

@@ -8,7 +8,7 @@ ghost use Rattle.tree_tests.specs.Never.{IsNever};
 
 use crate::ancestors::{Ancestor, NO_ANCESTOR, ahead, fill, met};
 use crate::sides::{Side, label, opposite};
-use crate::table::Table;
+use stamped_table::Table;
 use canonical_trees::TreePair;
 use road_model::{NoMemory, Query, Vertex};
 use std::alloc::Global;

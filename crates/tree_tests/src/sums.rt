@@ -8,7 +8,7 @@ ghost use Rattle.tree_tests.specs.declared.sides.Side.TheVariants.{Source, Targe
 ghost use Rattle.road_model.specs.Alternatives.{IsVia};
 
 use crate::sides::{Side, distance, step_up};
-use crate::table::{Stamped, Table};
+use stamped_table::{Stamped, Table};
 use canonical_trees::TreePair;
 use road_model::{ArcList, ArcNo, NoMemory, Step, Vertex};
 use std::alloc::Global;

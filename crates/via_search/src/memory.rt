@@ -4,7 +4,7 @@ use tree_tests::{SumTables, WayTables};
 
 /// The memory of plans and verdicts, for one query after another. It tells nothing of the queries before.
 ///
-/// It keeps 80 bytes a vertex, and what the largest searches so far needed.
+/// It keeps 112 bytes a vertex, 32 of them for the steps of the two trees, and what the largest searches so far needed.
 #[derive(Drop)]
 pub struct PlanMemory {
     /// That of the searches, which serves for an optimum alone too.

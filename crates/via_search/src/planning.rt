@@ -18,10 +18,11 @@ use std::alloc::Global;
 /// admissible single-via path once, in rank order.
 ///
 /// It takes a search that stops at the target, and two searches up to the stretch bound of the optimum, in the memory
-/// that is handed in and kept for the next query. That has 80 bytes a vertex, which are laid out once: a plan takes the
-/// time of what its searches visit, and beside the memory 4 bytes an arc of each path that is listed. What a path
-/// shares is told by sums along the trees, and most that fail a test by the trees alone; each path that is left is put
-/// to the oracle once. An `Err` leaves the oracle as good as before, and at worst an empty memory.
+/// that is handed in and kept for the next query. That has 112 bytes a vertex, which are laid out once: a plan takes the
+/// time of what its searches visit, and beside the memory 4 bytes an arc of each path that is listed. The steps of the
+/// trees are looked up once for each vertex, and then kept. What a path shares is told by sums along the trees, and most
+/// that fail a test by the trees alone; each path that is left is put to the oracle once. An `Err` leaves the oracle as
+/// good as before, and at worst an empty memory.
 pub fn plan_in<O: Oracle>(
     alloc: Global,
     memory: &mut PlanMemory,

@@ -14,8 +14,7 @@ ghost use Rattle.via_search.specs.Listing.{IsRouteOf};
 use crate::candidates::candidate_of;
 use crate::judging::passes_oracle;
 use crate::memory::PlanMemory;
-use crate::setting::Setting;
-use canonical_trees::trees_in;
+use crate::setting::{Setting, trees_with_steps};
 use forward_star::Star;
 use path_tests::within_share;
 use plateau_finder::{Plateau, plateaus_within};
@@ -131,14 +130,7 @@ pub(crate) fn alternatives<O: Oracle>(
     ensures asks { AsksForPlan star.now query.now (O.asked oracle.old) (O.asked oracle.new) }
 {
     let bound = query.epsilon.bound(optimum.length);
-    let pair = trees_in(
-        alloc,
-        &mut memory.trees,
-        star,
-        query.from,
-        query.to,
-        Some(bound),
-    )?;
+    let pair = trees_with_steps(alloc, &mut memory.trees, star, query, bound)?;
     let plateaus = plateaus_within(alloc, &pair, bound)?;
     let setting = Setting::of(star, &pair, query, optimum, bound);
     let routes = routes_of(alloc, memory, &setting, oracle, plateaus.as_slice())?;

@@ -1,12 +1,32 @@
 //! What the paths of a query are judged by.
 
-ghost use Rattle.std.specs.Prelude.{◌≡◌};
+ghost use Rattle.std.specs.Prelude.{◌≡◌, IfOk};
+ghost use Rattle.road_model.specs.Graph.{IsVertex};
 ghost use Rattle.via_search.specs.Candidates.{IsPosed, pair_of};
 
-use canonical_trees::TreePair;
+use canonical_trees::{TreeMemory, TreePair, trees_in};
 use forward_star::Star;
-use road_model::{Optimum, Query};
+use road_model::{NoMemory, Optimum, Query};
+use std::alloc::Global;
 use std::marker::Model;
+
+/// The trees of a query as far as `reach`, which keep the steps of all vertices whose paths are no longer than that:
+/// whoever asks of many paths would else look the step of a vertex up once for each path through it.
+pub(crate) fn trees_with_steps<'a>(
+    alloc: Global,
+    memory: &mut TreeMemory,
+    star: &'a Star,
+    query: &Query,
+    reach: u64,
+) -> Result<TreePair<'a>, NoMemory>
+    requires source { IsVertex star.now.vertices query.now.from }
+    requires target { IsVertex star.now.vertices query.now.to }
+    ensures { IfOk result (λ pair. pair ≡ pair_of star.now query.now reach) }
+{
+    let mut pair = trees_in(alloc, memory, star, query.from, query.to, Some(reach))?;
+    pair.keep_steps(reach)?;
+    Ok(pair)
+}
 
 /// What the paths of a query are judged by: its optimum, and the trees from its two ends.
 #[derive(Drop)]

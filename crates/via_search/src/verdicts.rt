@@ -141,6 +141,7 @@ pub fn verdict_in<O: Oracle>(
     if !query.epsilon.stretches(length, optimum.length) {
         return Ok(Some(Verdict::Long(length)));
     }
+    // One path alone is followed, so its steps needn't be kept.
     let pair = trees_in(
         alloc,
         &mut memory.trees,

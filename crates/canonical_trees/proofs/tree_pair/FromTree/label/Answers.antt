@@ -6,5 +6,5 @@ use Rattle.canonical_trees.proofs.tree_pair.FromTree.label.Goals as goal
 pub returns-clause-short : goal.returns-clause-short
 returns-clause-short c =
     let t = c.self.inside in
-    label_short t.star.now t.radius t.source c.args.v c.label.result c.self.invariant.limits
-    (label_of t.star.now t.source c.args.v t.radius t.ball.labels c.label.result c.self.invariant.ball.labelled (sym c.label.ensures.value))
+    label_short t.star.now t.radius t.source c.args.v c.label.result c.self.invariant.tree.limits
+    (label_of t.star.now t.source c.args.v t.radius t.ball.labels c.label.result c.self.invariant.tree.ball.labelled (sym c.label.ensures.value))

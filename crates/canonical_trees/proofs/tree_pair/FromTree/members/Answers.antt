@@ -7,4 +7,4 @@ pub returns : goal.returns
 returns c =
     let t = c.self.inside in
     subst (λ (x : Tree). IsMembers (λ v. IsInside x.graph x.radius x.root v) c.members.result.now) c.self.view_is
-    (read_members_from t.star.now t.source t.radius t.ball c.members.result.now c.self.invariant c.members.ensures)
+    (read_members_from t.star.now t.source t.radius t.ball c.members.result.now c.self.invariant.tree c.members.ensures)

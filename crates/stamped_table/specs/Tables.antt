@@ -5,7 +5,7 @@
 --   IsEmpty es           no place has a value
 use Rattle.std.specs.Prelude.{◌≡◌, ◌≤◌, ◌<◌, ℕ, List, Option, Some, None, if◌then◌else◌, ◌==◌}
 use Rattle.std.specs.List.{All, slice_index_or}
-use Rattle.tree_tests.specs.declared.table.Stamped.{Stamped}
+use Rattle.stamped_table.specs.declared.table.Stamped.{Stamped}
 
 module _ {X : Type 0} where
   abbrev pub told : ℕ → Stamped X → Option X

@@ -2,22 +2,23 @@
 
 ghost use Rattle.std.specs.Prelude.{◌≡◌, ◌≤◌, ◌<◌, ◌^◌, None, Some, All, OnOk, length};
 ghost use Rattle.std.specs.List.{slice_index_or, slice_set};
-ghost use Rattle.tree_tests.specs.Tables.{AreStamped, AreOlder, IsEmpty};
+ghost use Rattle.stamped_table.specs.Tables.{AreStamped, AreOlder, IsEmpty};
 
 use road_model::NoMemory;
 use std::alloc::Global;
 use std::marker::Model;
 
-/// A value, and the stamp that the table had as it was set.
+/// What a place keeps: a value, and the stamp that the table had as it was set. It is public so that a table's user can
+/// prove its size.
 #[derive(Clone, Copy, Debug)]
-pub(crate) struct Stamped<T> {
+pub struct Stamped<T> {
     pub(crate) stamp: u32,
     pub(crate) value: T,
 }
 
 /// Values by places, of which some have none. Takes the size of a value and 4 bytes a place.
 #[derive(Drop)]
-pub(crate) struct Table<T> {
+pub struct Table<T> {
     stamp: u32,
     blank: T,
     entries: Vec<Stamped<T>>,
@@ -31,7 +32,7 @@ impl<T> Model for Table<T> {
 
     ghost coded = { coded_list (coded_option T.code) };
 
-    ghost use Rattle.tree_tests.specs.Tables.{told, AreStamped};
+    ghost use Rattle.stamped_table.specs.Tables.{told, AreStamped};
 
     ghost view = { λ t. map (told t.stamp) t.entries.items };
 
@@ -53,7 +54,7 @@ fn next_stamp<T: Copy>(stamp: u32, entries: &mut Vec<Stamped<T>>) -> u32
 
 impl<T: Copy> Table<T> {
     /// No place. `blank` is written where no value is, and never told. Takes no memory.
-    pub(crate) fn new(alloc: Global, blank: T) -> Table<T>
+    pub fn new(alloc: Global, blank: T) -> Table<T>
         ensures { IsEmpty result }
     {
         Table {
@@ -65,7 +66,7 @@ impl<T: Copy> Table<T> {
 
     /// Takes every value away, and lets the table have so many places or more. Takes constant time, and that of the
     /// places that are new; once in 2^32 times that of all.
-    pub(crate) fn empty(&mut self, places: usize) -> Result<(), NoMemory>
+    pub fn empty(&mut self, places: usize) -> Result<(), NoMemory>
         ensures empty { IsEmpty self.new }
         ensures places { OnOk result (places ≤ length self.new) }
     {
@@ -81,7 +82,7 @@ impl<T: Copy> Table<T> {
     }
 
     /// How many places it has.
-    pub(crate) fn len(&self) -> usize
+    pub fn len(&self) -> usize
         ensures { result ≡ length self.now }
     {
         self.entries.len()
@@ -89,7 +90,7 @@ impl<T: Copy> Table<T> {
 
     /// The value at a place, if it has one.
     #[inline]
-    pub(crate) fn get(&self, place: usize) -> Option<T>
+    pub fn get(&self, place: usize) -> Option<T>
         ensures { result ≡ slice_index_or self.now place None }
     {
         let Some(entry) = self.entries.as_slice().get(place) else {
@@ -104,7 +105,7 @@ impl<T: Copy> Table<T> {
 
     /// Sets the value at a place, if there is such a place.
     #[inline]
-    pub(crate) fn set(&mut self, place: usize, value: T)
+    pub fn set(&mut self, place: usize, value: T)
         ensures { self.new ≡ slice_set self.old place (Some value) }
     {
         if place < self.entries.len() {

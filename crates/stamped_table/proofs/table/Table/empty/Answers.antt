@@ -1,7 +1,7 @@
 use Rattle.std.proofs.Common.{map, sym, subst}
-use Rattle.tree_tests.specs.Tables.{told, IsEmpty}
-use Rattle.tree_tests.proofs.Stamps.{older_told, older_more}
-use Rattle.tree_tests.proofs.table.Table.empty.Goals as goal
+use Rattle.stamped_table.specs.Tables.{told, IsEmpty}
+use Rattle.stamped_table.proofs.Stamps.{older_told, older_more}
+use Rattle.stamped_table.proofs.table.Table.empty.Goals as goal
 
 pub returns-in_err-resize-clause-empty : goal.returns-in_err-resize-clause-empty
 returns-in_err-resize-clause-empty g c =

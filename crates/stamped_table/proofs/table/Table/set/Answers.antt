@@ -1,6 +1,6 @@
 use Rattle.std.proofs.Common.{◌∙◌, ap, Some, set}
-use Rattle.tree_tests.proofs.Stamps.{told_set}
-use Rattle.tree_tests.proofs.table.Table.set.Goals as goal
+use Rattle.stamped_table.proofs.Stamps.{told_set}
+use Rattle.stamped_table.proofs.table.Table.set.Goals as goal
 
 pub returns-then-place-len : goal.returns-then-place-len
 returns-then-place-len g c =

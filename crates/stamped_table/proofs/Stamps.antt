@@ -3,8 +3,8 @@ use Rattle.std.proofs.Common.{◌≡◌, ◌<◌, ◌==◌, ℕ, zero, suc, List
 use Rattle.std.proofs.lemmas.Bool.{cond-true, cond-false, eq-eqb, ne_eqb}
 use Rattle.std.proofs.lemmas.List.{map-set}
 use Rattle.std.proofs.lemmas.List.Elements.{All-append, All-replicate, All-take}
-use Rattle.tree_tests.specs.declared.table.Stamped.{Stamped}
-use Rattle.tree_tests.specs.Tables.{told, AreOlder, IsEmpty}
+use Rattle.stamped_table.specs.declared.table.Stamped.{Stamped}
+use Rattle.stamped_table.specs.Tables.{told, AreOlder, IsEmpty}
 
 module _ {X : Type 0} where
   none_told : (now : ℕ) (e : Stamped X) → e.stamp < now → told now e ≡ None

@@ -1,0 +1,20 @@
+use Rattle.std.proofs.Common.{◌≡◌, ◌++◌, ◌∷◌, [], sym, ap, ◌∙◌, subst}
+use Rattle.std.proofs.lemmas.Option.{IfSome_then}
+use Rattle.road_model.specs.Graph.{Graph}
+use Rattle.road_model.specs.Changes.{after, after_all}
+use Rattle.hierarchy_build.specs.Hierarchy.{IsShapeOf}
+use Rattle.route_engine.specs.Lineage.{Lineage, graph_of}
+use Rattle.route_engine.proofs.Batches.{after_all-append, IsShapeOf-after}
+use Rattle.route_engine.proofs.prepared.Prepared.followed_by.Goals as goal
+
+pub renewed-requires : goal.renewed-requires
+renewed-requires c =
+    let view : graph_of (record { base = c.self.inside.base.value; history = c.self.inside.past }) ≡ graph_of c.args.self.now = ap graph_of c.self.view_is in
+    let before : c.self.inside.star.value ≡ graph_of c.args.self.now = c.self.invariant.0 ∙ view in
+    let is : after c.self.inside.star.value c.args.changes.now ≡ c.args.star = ap (λ (g : Graph). after g c.args.changes.now) before ∙ sym c.requires.star in
+    IfSome_then c.self.inside.hierarchy c.self.invariant.1 (λ h s.
+    let P : Graph → Type 0 = λ g. IsShapeOf g h.value.shape in
+    subst P is (IsShapeOf-after c.self.inside.star.value h.value.shape c.args.changes.now s.shape))
+
+pub invariant_of-result : goal.invariant_of-result
+invariant_of-result c = ?

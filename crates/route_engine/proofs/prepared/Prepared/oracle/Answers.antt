@@ -1,0 +1,12 @@
+use Rattle.std.proofs.Common.{◌≡◌, sym, ap, ◌∙◌}
+use Rattle.forward_star.proofs.Bound.{dists_below}
+use Rattle.tree_search.specs.Oracle.{Questions}
+use Rattle.route_engine.specs.Lineage.{graph_of}
+use Rattle.route_engine.proofs.Batches.{HaveSameDist-same}
+use Rattle.route_engine.proofs.prepared.Prepared.oracle.Goals as goal
+
+pub in_memory-requires-in-None-clause-near : goal.in_memory-requires-in-None-clause-near
+in_memory-requires-in-None-clause-near c = dists_below _ c.within_limits.ensures
+
+pub returns-in_ok-oracle-in-None : goal.returns-in_ok-oracle-in-None
+returns-in_ok-oracle-in-None c = ?

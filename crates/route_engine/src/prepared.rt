@@ -1,0 +1,238 @@
+ghost use Rattle.std.specs.Prelude.{◌≡◌, ◌<◌, [], ◌∷◌, ◌++◌, length, IfOk};
+ghost use Rattle.road_model.specs.Graph.{IsVertex};
+ghost use Rattle.road_model.specs.Dist.{HaveSameDist};
+ghost use Rattle.road_model.specs.Answers.{IsAnswer};
+ghost use Rattle.road_model.specs.Changes.{after};
+ghost use Rattle.route_engine.specs.Lineage.{graph_of, number_of};
+ghost use Rattle.route_engine.specs.Oracles.{asked_graph};
+
+use crate::hierarchies::{hierarchy_of, renewed};
+use crate::past::Past;
+use crate::version_oracle::VersionOracle;
+use crate::work::Work;
+use canonical_trees::optimum_in;
+use forward_star::Star;
+use hierarchy_build::Hierarchy;
+use hierarchy_query::HierarchyOracle;
+use road_model::{
+    Change, ChangeFault, GraphFile, NoMemory, Optimum, Plan, Planner, Query, Verdict, Version,
+    Vertex,
+};
+use std::alloc::Global;
+use std::marker::Model;
+use std::sync::Arc;
+use tree_search::PlainOracle;
+use via_search::{plan_in, verdict_in};
+
+/// The most batches that a version may have after it: its number is then the last.
+const MOST_BATCHES: usize = 1048575;
+
+/// A version of a graph, prepared for requests. To a clause it is the graph of version 1 and the batches since.
+///
+/// It keeps a star, of which the lengths, 12 bytes an arc, are its own, and the links of a hierarchy, 12 bytes a link that
+/// is kept and 8 bytes a vertex. The rest of the star and the shape of the hierarchy all versions share, and so the lengths
+/// of version 1 and the batches. Where version 1 got no hierarchy, no version has one, and plain searches answer.
+#[derive(Drop)]
+pub struct Prepared {
+    base: Arc<Star, Global>,
+    past: Past,
+    star: Arc<Star, Global>,
+    hierarchy: Option<Arc<Hierarchy, Global>>,
+}
+
+impl Model for Prepared {
+    ghost use Rattle.std.specs.Prelude.{◌≡◌, IfSome};
+    ghost use Rattle.road_model.specs.Changes.{after_all};
+    ghost use Rattle.route_engine.specs.Lineage.{Lineage, Serves};
+
+    ghost Value = { Lineage };
+
+    ghost view = { λ v. record { base = v.base.value; history = v.past } };
+
+    ghost invariant = { λ v. (v.star.value ≡ after_all v.base.value v.past)
+        × IfSome v.hierarchy (λ h. Serves v.star.value h.value) };
+}
+
+impl Prepared {
+    /// Version 1 of a graph.
+    ///
+    /// It lays out the star, in linear time, and makes the hierarchy at once, which takes nearly linear time on road
+    /// networks: some milliseconds for thousands of vertices, and seconds for a million. Where the hierarchy is refused,
+    /// as it would have too many links or triangles, or by want of memory, plain searches answer for good.
+    pub fn from_file(alloc: Global, graph: GraphFile) -> Result<Prepared, NoMemory>
+        ensures { IfOk result (λ v. v ≡ record { base = graph; history = [] }) }
+    {
+        let star = Star::build(alloc, graph)?;
+        let hierarchy = hierarchy_of(alloc, &star);
+        let star = Arc::new(alloc, star)?;
+        let base = Arc::try_clone(&star)?;
+        let past = Past::new(alloc)?;
+        Ok(Prepared {
+            base,
+            past,
+            star,
+            hierarchy,
+        })
+    }
+
+    /// The graph of version 1.
+    pub fn base(&self) -> &Star
+        ensures { result.now ≡ self.now.base }
+    {
+        &self.base
+    }
+
+    /// The graph of this version.
+    pub fn star(&self) -> &Star
+        ensures { result.now ≡ graph_of self.now }
+    {
+        &self.star
+    }
+
+    /// The batches that were published since version 1.
+    pub fn history(&self) -> &Past
+        ensures { result.now ≡ self.now.history }
+    {
+        &self.past
+    }
+
+    // The version that has this star, after these changes.
+    fn followed_by(
+        &self,
+        alloc: Global,
+        star: Star,
+        changes: &[Change],
+    ) -> Result<Prepared, NoMemory>
+        requires star { star ≡ after (graph_of self.now) changes.now }
+        requires room { length self.now.history < 1048575 }
+        ensures { IfOk result (λ v. v ≡ record { base = self.now.base; history = self.now.history ++ changes.now ∷ [] }) }
+    {
+        let hierarchy = renewed(alloc, &self.hierarchy, &star)?;
+        let past = self.past.with(alloc, changes)?;
+        let star = Arc::new(alloc, star)?;
+        let base = Arc::try_clone(&self.base)?;
+        Ok(Prepared {
+            base,
+            past,
+            star,
+            hierarchy,
+        })
+    }
+
+    // An oracle for the graph of this version.
+    fn oracle(&self, alloc: Global, work: &mut Work) -> Result<VersionOracle<'_>, NoMemory>
+        ensures { IfOk result (λ o. HaveSameDist (graph_of self.now) (asked_graph o)) }
+    {
+        match &self.hierarchy {
+            Some(hierarchy) => {
+                let hierarchy = Arc::try_clone(hierarchy)?;
+                let memory = work.take_climbs(alloc);
+                let oracle = HierarchyOracle::in_memory(alloc, memory, hierarchy)?;
+                Ok(VersionOracle::Climbing(oracle))
+            }
+            None => {
+                let star = self.star();
+                star.within_limits();
+                let memory = work.take_searches(alloc);
+                let oracle = PlainOracle::in_memory(alloc, memory, star)?;
+                Ok(VersionOracle::Plain(oracle))
+            }
+        }
+    }
+
+    /// The plan of a query, which adds to `work.settled()` what its oracle settled.
+    ///
+    /// It takes what `plan_in` takes, and its questions are answered by climbs in the hierarchy, or by plain searches
+    /// where there is none.
+    pub fn plan_counted(
+        &self,
+        alloc: Global,
+        query: &Query,
+        work: &mut Work,
+    ) -> Result<Plan, NoMemory>
+        requires source { IsVertex (graph_of self.now).vertices query.now.from }
+        requires target { IsVertex (graph_of self.now).vertices query.now.to }
+        ensures { IfOk result (IsAnswer (graph_of self.now) query.now) }
+    {
+        let star = self.star();
+        let mut oracle = self.oracle(alloc, work)?;
+        let plan = plan_in(alloc, &mut work.plans, star, &mut oracle, query);
+        work.keep(oracle);
+        plan
+    }
+}
+
+impl Planner for Prepared {
+    type Work = Work;
+
+    ghost graph = { graph_of };
+
+    ghost version = { number_of };
+
+    fn work(alloc: Global) -> Work {
+        Work::new(alloc)
+    }
+
+    fn number(&self) -> u64 {
+        self.past.len() as u64 + 1
+    }
+
+    fn vertices(&self) -> u32 {
+        self.star().vertices()
+    }
+
+    fn arcs(&self) -> u32 {
+        self.star().arc_count()
+    }
+
+    fn best(
+        &self,
+        alloc: Global,
+        work: &mut Work,
+        from: Vertex,
+        to: Vertex,
+    ) -> Result<Option<Optimum>, NoMemory> {
+        optimum_in(alloc, &mut work.plans.trees, self.star(), from, to)
+    }
+
+    fn plan(&self, alloc: Global, work: &mut Work, query: &Query) -> Result<Plan, NoMemory> {
+        self.plan_counted(alloc, query, work)
+    }
+
+    fn verdict(
+        &self,
+        alloc: Global,
+        work: &mut Work,
+        query: &Query,
+        via: Vertex,
+    ) -> Result<Option<Verdict>, NoMemory> {
+        let star = self.star();
+        let mut oracle = self.oracle(alloc, work)?;
+        let verdict = verdict_in(alloc, &mut work.plans, star, &mut oracle, query, via);
+        work.keep(oracle);
+        verdict
+    }
+}
+
+impl Version for Prepared {
+    ghost use Rattle.std.specs.Prelude.{refl};
+
+    ghost base = { λ v. v.base };
+
+    ghost history = { λ v. v.history };
+
+    /// A version takes the time to copy the lengths of the star, that of customising the hierarchy, and constant time more,
+    /// about a thousand copied handles. Where memory for its hierarchy is refused, so is the version.
+    fn after(&self, alloc: Global, changes: &[Change]) -> Result<Prepared, ChangeFault> {
+        let star = self.star().with(alloc, changes)?;
+        if self.past.len() == MOST_BATCHES {
+            return Err(ChangeFault::Full);
+        }
+        let next = self.followed_by(alloc, star, changes)?;
+        Ok(next)
+    }
+
+    ghost has_graph = { λ v. refl };
+
+    ghost has_number = { λ v. refl };
+}

@@ -1,0 +1,127 @@
+use super::*;
+use road_model::{
+    ArcNo, ArcRow, ArcRows, Change, ChangeFault, GraphFile, Plan, Planner, Query, Version, Vertex,
+};
+use std::alloc::Global;
+use std::test::Fail;
+
+// A graph of these arcs (tail, head, length); a row outside the limits fails the test.
+fn graph_of(alloc: Global, vertices: u32, arcs: &[(u32, u32, u64)]) -> Result<GraphFile, Fail> {
+    let mut rows = ArcRows::new(alloc);
+    if vertices > 33554432 || arcs.len() > 67108864 {
+        return Err("too large a graph".into());
+    }
+    for arc in arcs {
+        let (tail, head, length) = *arc;
+        let ends = tail >= 1 && tail <= vertices && head >= 1 && head <= vertices;
+        if !ends || length < 1 || length > 4294967295 {
+            return Err("an arc outside the limits".into());
+        }
+        rows.push(ArcRow {
+            tail: Vertex(tail),
+            head: Vertex(head),
+            length,
+        })?;
+    }
+    Ok(GraphFile::new(vertices, rows))
+}
+
+// Six vertices, where two ways lead from 1 to 6: by 2, and by 3.
+fn two_ways(alloc: Global) -> Result<Prepared, Fail> {
+    let arcs = [
+        (1, 2, 10),
+        (2, 6, 10),
+        (1, 3, 11),
+        (3, 4, 6),
+        (4, 6, 5),
+        (2, 3, 1),
+    ];
+    Ok(Prepared::from_file(alloc, graph_of(alloc, 6, &arcs)?)?)
+}
+
+fn change(arc: u32, length: u64) -> Change {
+    Change {
+        arc: ArcNo(arc),
+        length,
+    }
+}
+
+// The via vertex, the length and the rank of the one alternative from 1 to 6.
+fn alternative(
+    alloc: Global,
+    version: &Prepared,
+    work: &mut Work,
+) -> Result<(Vertex, u64, u64), Fail> {
+    if version.vertices() < 6 {
+        return Err("too few vertices".into());
+    }
+    let query = Query::usual(Vertex(1), Vertex(6));
+    let Plan::Found { others, .. } = version.plan_counted(alloc, &query, work)? else {
+        return Err("no path".into());
+    };
+    match others.as_slice() {
+        [route] => Ok((route.via, route.length, route.rank)),
+        _ => Err("another number of alternatives".into()),
+    }
+}
+
+#[test]
+fn each_version_answers_by_its_own_lengths(rt: HostRuntime) -> Result<(), Fail> {
+    let alloc = rt.alloc();
+    let mut work = Prepared::work(alloc);
+    let first = two_ways(alloc)?;
+    let second = first.after(alloc, &[change(4, 7)])?;
+    let rows = [
+        (&first, 1, 22, 38),
+        (&second, 2, 23, 39),
+        (&first, 1, 22, 38),
+    ];
+    for (version, number, length, rank) in rows {
+        let before = work.settled();
+        let found = alternative(alloc, version, &mut work)?;
+        assert_eq!(rt; version.number(), number);
+        assert_eq!(rt; version.arcs(), 6);
+        assert_eq!(rt; found, (Vertex(3), length, rank));
+        assert!(rt; work.settled() > before);
+    }
+    Ok(())
+}
+
+#[test]
+fn a_batch_is_refused_by_its_first_failing_change(rt: HostRuntime) -> Result<(), Fail> {
+    let alloc = rt.alloc();
+    let first = two_ways(alloc)?;
+    let rows = [
+        (change(7, 0), ChangeFault::ArcRange),
+        (change(0, 1), ChangeFault::ArcRange),
+        (change(1, 0), ChangeFault::LengthRange),
+        (change(1, 4294967296), ChangeFault::LengthRange),
+    ];
+    for (failing, fault) in rows {
+        let Err(found) = first.after(alloc, &[change(6, 4294967295), failing]) else {
+            return Err("a version after a failing change".into());
+        };
+        assert_eq!(rt; found, fault);
+    }
+    Ok(())
+}
+
+#[test]
+fn every_batch_is_kept(rt: HostRuntime) -> Result<(), Fail> {
+    let alloc = rt.alloc();
+    let mut newest = two_ways(alloc)?;
+    for k in 0..3000u64 {
+        newest = newest.after(alloc, &[change(1, k + 1)])?;
+    }
+    assert_eq!(rt; newest.number(), 3001);
+    assert_eq!(rt; newest.history().len(), 3000);
+    for place in [0, 1023, 1024, 2047, 2048, 2999] {
+        let Some(batch) = newest.history().get(place) else {
+            return Err("no batch".into());
+        };
+        let length = place as u64 + 1;
+        assert_eq!(rt; batch.as_slice(), [change(1, length)].as_slice());
+    }
+    assert!(rt; newest.history().get(3000).is_none());
+    Ok(())
+}

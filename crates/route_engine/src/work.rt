@@ -1,0 +1,73 @@
+use crate::version_oracle::VersionOracle;
+use hierarchy_query::ClimbMemory;
+use road_model::Oracle;
+use std::alloc::Global;
+use std::marker::Model;
+use std::mem;
+use tree_search::SearchMemory;
+use via_search::PlanMemory;
+
+/// The memory of requests, kept from one to the next. It serves every version of every graph, and tells nothing of the
+/// requests before.
+///
+/// It keeps what `PlanMemory` keeps, and for distances 16 bytes a vertex where hierarchies answer, or 8 bytes a vertex and
+/// what the largest search so far needed. A request takes memory for these only where the one before was over another
+/// number of vertices.
+#[derive(Drop)]
+pub struct Work {
+    pub(crate) plans: PlanMemory,
+    climbs: ClimbMemory,
+    searches: SearchMemory,
+    settled: u64,
+}
+
+impl Model for Work {
+    ghost use Rattle.label_setting.specs.Search.{IsTracked};
+
+    ghost Value = { Unit {0} };
+
+    ghost view = { λ _. tt };
+
+    ghost invariant = { λ w. IsTracked w.searches.labels.items w.searches.touched.items };
+}
+
+impl Work {
+    ghost use Rattle.label_setting.specs.Search.{IsTracked};
+
+    /// Memory for no graph yet: the first request lays it out. Takes no memory itself.
+    pub fn new(alloc: Global) -> Work {
+        Work {
+            plans: PlanMemory::new(alloc),
+            climbs: ClimbMemory::new(alloc),
+            searches: SearchMemory::new(alloc),
+            settled: 0,
+        }
+    }
+
+    /// How many vertices the oracles of all requests have settled, or passed where they climbed, up to the last value of
+    /// its type.
+    pub fn settled(&self) -> u64 {
+        self.settled
+    }
+
+    /// The memory of climbs; an empty one stays in its place.
+    pub(crate) fn take_climbs(&mut self, alloc: Global) -> ClimbMemory {
+        mem::replace(&mut self.climbs, ClimbMemory::new(alloc))
+    }
+
+    /// The memory of plain searches; an empty one stays in its place.
+    pub(crate) fn take_searches(&mut self, alloc: Global) -> SearchMemory
+        ensures { IsTracked result.labels.items result.touched.items }
+    {
+        mem::replace(&mut self.searches, SearchMemory::new(alloc))
+    }
+
+    /// Keeps the memory of an oracle, and counts what it settled.
+    pub(crate) fn keep(&mut self, oracle: VersionOracle<'_>) {
+        self.settled = self.settled.saturating_add(oracle.settled());
+        match oracle {
+            VersionOracle::Climbing(oracle) => self.climbs = oracle.into_memory(),
+            VersionOracle::Plain(oracle) => self.searches = oracle.into_memory(),
+        }
+    }
+}
