@@ -2,8 +2,8 @@
 """Compares the replies to the examples with the stored ones, byte for byte.
 
 For each examples/NAME.requests the program answers over examples/NAME.gr, and has to write examples/NAME.replies, and so
-have the definitions (plain.py), from which the stored replies are. README shows the replies to small.requests, and its
-blocks with lines `> REQUEST` are examples over small.gr, which are held to the definitions. It ends with 1 where a byte
+have the definitions (plain.py), from which the stored replies are. README shows the replies to small.requests, and each
+of its blocks with lines `> REQUEST` is a run over small.gr, which is held to the definitions. It ends with 1 where a byte
 differs.
 """
 import glob
@@ -43,8 +43,9 @@ def main():
     small = plain.read_graph(os.path.join(program.TOP, "examples", "small.gr"))
     blocks = re.findall(rb"^```\n(> .*?)^```$", readme, re.M | re.S)
     for block in blocks:
+        run = plain.Run(small)
         for request, reply in re.findall(rb"^> (.*)\n((?:[^>].*\n)*)", block, re.M):
-            demand("README, " + request.decode(), reply, plain.replies(small, request + b"\n"))
+            demand("README, " + request.decode(), reply, run.reply(request))
     print("%d examples, %d blocks of README: the same bytes" % (len(examples), len(blocks)))
 
 

@@ -15,9 +15,9 @@ import program
 
 RUN = "crates/route_server/src/command.rt"
 NAMED = [  # a file, what in it README has to name, and how
-    ("crates/line_front/specs/Replies.antt", r'^error_text .*"([a-z]+) ?"', "`error %s"),
+    ("crates/road_model/specs/Messages.antt", r'^error_word .*"([a-z]+)"', "`error %s"),
     ("crates/route_server/src/status.rt", r'write!\(f, "([a-z ]+)"\)', "`road: %s`"),
-    ("crates/route_server/src/status.rt", r'"([a-z]+-[a-z]+)"', "`%s`"),
+    ("crates/dimacs_reader/specs/Messages.antt", r'^kind_word .*"([a-z-]+)"', "`%s`"),
     ("crates/route_server/specs/Statuses.antt", r"^status_number .* = (\d+)", "| %s |"),
     ("crates/road_model/src/graph_file.rt", r"const \w+: u\d+ = (\d+);", "%s"),
 ]

@@ -1,7 +1,7 @@
 #!/usr/bin/env python3
 """Measures the hierarchy of whole networks: the order of contraction, shape and lengths, the lengths anew, and distances.
 
-A graph is a file, or `grid:W:H` (made by `road make 7 W H`), or `road:SIDE` (bench/network.py 1 SIDE). Each round runs the
+A graph is named as for routes.py: a file, or `grid:W:H`, or `road:SIDE`, or one of bench/networks.py. Each round runs the
 program `hierarchy_times`, which the gate builds. Times are those of the quickest round; the spread is the greatest of a
 round's sums by the least. A distance is the mean over random pairs, and `to 1000` the time of the distances from one vertex to
 a thousand, the laying out of their labels included. Memory is the peak of the resident set, with the graph's own.

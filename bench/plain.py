@@ -1,6 +1,6 @@
 #!/usr/bin/env python3
 """The definitions of docs/definitions.md, computed plainly and with no kit: canonical paths, the alternatives and the
-verdicts of a query, over all vertices and all pairs of places, and the replies to request lines.
+verdicts of a query, over all vertices and all pairs of places, versions of a graph, and the replies to request lines.
 
 It answers the request lines of the standard input over a graph file without a fault.
 """
@@ -11,6 +11,9 @@ import re
 import sys
 
 LONGEST_LINE = 1024
+LONGEST_LENGTH = 4294967295
+MOST_VERSIONS = 1048576
+KEPT = 8  # plans
 RATIOS = {b"gamma": (4, 5), b"alpha": (1, 4), b"epsilon": (1, 4)}
 USUAL = {**RATIOS, b"size": 5, b"since": 0}
 
@@ -48,6 +51,15 @@ def read_graph(path):
         elif fields and fields[0] == b"a":
             arcs.append((int(fields[1]), int(fields[2]), int(fields[3])))
     return Graph(vertices, arcs)
+
+
+def after(graph, changes):
+    """The graph with the length of each named arc replaced, in the order of the changes."""
+    arcs = list(graph.arcs)
+    for number, length in changes:
+        tail, head, _old = arcs[number - 1]
+        arcs[number - 1] = tail, head, length
+    return type(graph)(graph.vertices, arcs)
 
 
 def graph_text(graph):
@@ -225,97 +237,152 @@ def cursor_of(field):
 # ---- replies
 
 
-def test(graph, ends, ratios=(), size=1, since=0, version=1):
-    """Raises the first refusal that holds."""
-    if not all(1 <= v <= graph.vertices for v in ends):
-        raise Refusal("vertex")
-    for (num, den), cap in zip(ratios, (1, 1, 4)):
-        if not 1 <= den <= 1000000 or num > cap * den:
-            raise Refusal("ratio")
-    if not 1 <= size <= 64:
-        raise Refusal("size")
-    if since > 1:
-        raise Refusal("behind 1")
-    if version != 1:
-        raise Refusal("gone 1")
-
-
 def arcs_text(arcs):
     return "".join(" %d" % number for number in arcs)
 
 
-def optimum(graph, fields):
-    source, target = numbers_of(fields, 2)
-    test(graph, [source, target])
-    found = canonical_paths(graph.out, source).get(target)
-    if found is None:
-        return ["none 1"]
-    return ["ok 1", "optimum length %d arcs%s" % (found[0], arcs_text(found[1][::-1])), "end"]
-
-
-def page(graph, cursor, since=0):
-    version, source, target, *numbers, size, offset = cursor
-    ratios = numbers[0:2], numbers[2:4], numbers[4:6]
-    test(graph, [source, target], ratios, size, since, version)
+def plan(graph, source, target, ratios):
+    """The lines of the optimum and of the alternatives after it; none where no path leads to the target."""
     query = Query(graph, source, target, *ratios)
     if query.optimum is None:
-        return ["none 1"]
+        return None
     items = ["optimum length %d arcs%s" % (query.shortest, arcs_text(query.optimum))]
     for rank, name, length, shared, plateau, path in query.alternatives():
         numbers = name, length, shared, plateau, rank, arcs_text(path)
         items.append("route via %d length %d shared %d plateau %d rank %d arcs%s" % numbers)
-    first = min(offset, len(items))
-    end = first + min(size, len(items) - first)
-    more = ["more " + ".".join(str(number) for number in cursor[:-1] + [end])]
-    return ["ok 1"] + items[first:end] + (more if end < len(items) else []) + ["end"]
+    return items
 
 
-def route(graph, fields):
-    source, target = numbers_of(fields[:2], 2)
-    options = options_of(fields[2:], (b"gamma", b"alpha", b"epsilon", b"size", b"since"))
-    ratios = [*options[b"gamma"], *options[b"alpha"], *options[b"epsilon"]]
-    return page(graph, [1, source, target, *ratios, options[b"size"], 0], options[b"since"])
+class Run:
+    """A run of `answer`: the versions of a graph so far, the changes that are staged, and the keys whose plans are kept. A
+    key is a version and a query: its source, its target and its ratios as they were given."""
 
+    def __init__(self, graph):
+        self.base, self.batches, self.staged = graph, [], []
+        self.keys = []  # the most recently used first
+        self.graphs, self.plans = {1: graph}, {}  # found so far, so that none is made twice
 
-def next_page(graph, fields):
-    if len(fields) != 1:
-        raise Refusal("syntax")
-    return page(graph, cursor_of(fields[0]))
+    def newest(self):
+        return 1 + len(self.batches)
 
+    def graph(self, version):
+        if version not in self.graphs:
+            self.graphs[version] = after(self.base, itertools.chain(*self.batches[: version - 1]))
+        return self.graphs[version]
 
-def why(graph, fields):
-    source, target, via = numbers_of(fields[:3], 3)
-    options = options_of(fields[3:], (b"gamma", b"alpha", b"epsilon", b"since"))
-    ratios = options[b"gamma"], options[b"alpha"], options[b"epsilon"]
-    test(graph, [source, target, via], ratios, since=options[b"since"])
-    query = Query(graph, source, target, *ratios)
-    if query.optimum is None:
-        return ["none 1"]
-    return ["ok 1", "verdict %d %s" % (via, query.verdict(via)), "end"]
+    def replies(self, text):
+        """The lines of a text up to a line `quit`, each with the bytes of its reply."""
+        for line in lines_of(text):
+            if is_quit(line):
+                return
+            yield line, self.reply(line)
 
+    def reply(self, line):
+        """The bytes of the reply to a line; none to a line without a field."""
+        fields = fields_of(line)
+        try:
+            if len(line) > LONGEST_LINE:
+                raise Refusal("long")
+            if not fields:
+                return b""
+            if fields[0] not in REQUESTS:
+                raise Refusal("syntax")
+            lines = REQUESTS[fields[0]](self, fields[1:])
+        except Refusal as refusal:
+            lines = ["error %s" % refusal]
+        return "".join(line + "\n" for line in lines).encode()
 
-def version(graph, fields):
-    numbers_of(fields, 0)
-    return ["version 1"]
+    def test(self, ends, ratios=(), size=1, since=0):
+        """Raises the first refusal that holds."""
+        if not all(1 <= v <= self.base.vertices for v in ends):
+            raise Refusal("vertex")
+        for (num, den), cap in zip(ratios, (1, 1, 4)):
+            if not 1 <= den <= 1000000 or num > cap * den:
+                raise Refusal("ratio")
+        if not 1 <= size <= 64:
+            raise Refusal("size")
+        if since > self.newest():
+            raise Refusal("behind %d" % self.newest())
 
+    def page(self, key, size, offset):
+        """A page of the key's plan, which is kept from then on; the least recently used one is dropped for it."""
+        self.keys = [key, *(other for other in self.keys if other != key)][:KEPT]
+        version, source, target, ratios = key
+        if key not in self.plans:
+            self.plans[key] = plan(self.graph(version), source, target, ratios)
+        items = self.plans[key]
+        if items is None:
+            return ["none %d" % version]
+        first = min(offset, len(items))
+        end = first + min(size, len(items) - first)
+        cursor = [version, source, target, *itertools.chain(*ratios), size, end]
+        more = ["more " + ".".join(map(str, cursor))] if end < len(items) else []
+        return ["ok %d" % version, *items[first:end], *more, "end"]
 
-REQUESTS = {b"optimum": optimum, b"route": route, b"next": next_page, b"why": why, b"version": version}
+    # ---- requests, by the fields after their word
 
+    def optimum(self, fields):
+        source, target = numbers_of(fields, 2)
+        self.test([source, target])
+        found = canonical_paths(self.graph(self.newest()).out, source).get(target)
+        if found is None:
+            return ["none %d" % self.newest()]
+        return ["ok %d" % self.newest(), "optimum length %d arcs%s" % (found[0], arcs_text(found[1][::-1])), "end"]
 
-def reply(graph, line):
-    """The bytes of the reply to a line; none to a line without a field."""
-    fields = fields_of(line)
-    try:
-        if len(line) > LONGEST_LINE:
-            raise Refusal("long")
-        if not fields:
-            return b""
-        if fields[0] not in REQUESTS:
+    def route(self, fields):
+        source, target = numbers_of(fields[:2], 2)
+        options = options_of(fields[2:], (b"gamma", b"alpha", b"epsilon", b"size", b"since"))
+        ratios = options[b"gamma"], options[b"alpha"], options[b"epsilon"]
+        self.test([source, target], ratios, options[b"size"], options[b"since"])
+        return self.page((self.newest(), source, target, ratios), options[b"size"], 0)
+
+    def next_page(self, fields):
+        if len(fields) != 1:
             raise Refusal("syntax")
-        lines = REQUESTS[fields[0]](graph, fields[1:])
-    except Refusal as refusal:
-        lines = ["error %s" % refusal]
-    return "".join(line + "\n" for line in lines).encode()
+        version, source, target, *numbers, size, offset = cursor_of(fields[0])
+        ratios = tuple(numbers[0:2]), tuple(numbers[2:4]), tuple(numbers[4:6])
+        self.test([source, target], ratios, size)
+        key = version, source, target, ratios
+        if version != self.newest() and key not in self.keys:
+            raise Refusal("gone %d" % self.newest())
+        return self.page(key, size, offset)
+
+    def why(self, fields):
+        source, target, via = numbers_of(fields[:3], 3)
+        options = options_of(fields[3:], (b"gamma", b"alpha", b"epsilon", b"since"))
+        ratios = options[b"gamma"], options[b"alpha"], options[b"epsilon"]
+        self.test([source, target, via], ratios, since=options[b"since"])
+        query = Query(self.graph(self.newest()), source, target, *ratios)
+        if query.optimum is None:
+            return ["none %d" % self.newest()]
+        return ["ok %d" % self.newest(), "verdict %d %s" % (via, query.verdict(via)), "end"]
+
+    def version(self, fields):
+        numbers_of(fields, 0)
+        return ["version %d" % self.newest()]
+
+    def length(self, fields):
+        arc, length = numbers_of(fields, 2)
+        if not 1 <= arc <= len(self.base.arcs):
+            raise Refusal("arc")
+        if not 1 <= length <= LONGEST_LENGTH:
+            raise Refusal("length")
+        self.staged.append((arc, length))
+        return ["staged %d" % len(self.staged)]
+
+    def publish(self, fields):
+        numbers_of(fields, 0)
+        if self.newest() == MOST_VERSIONS:
+            raise Refusal("full")
+        self.batches.append(self.staged)
+        self.staged = []
+        return ["published %d" % self.newest()]
+
+
+REQUESTS = {
+    b"optimum": Run.optimum, b"route": Run.route, b"next": Run.next_page, b"why": Run.why, b"version": Run.version,
+    b"length": Run.length, b"publish": Run.publish,
+}
 
 
 def is_quit(line):
@@ -323,9 +390,8 @@ def is_quit(line):
 
 
 def replies(graph, text):
-    """The replies to the lines of a text, up to a line `quit`."""
-    asked = itertools.takewhile(lambda line: not is_quit(line), lines_of(text))
-    return b"".join(reply(graph, line) for line in asked)
+    """The replies of a run over this text."""
+    return b"".join(reply for _line, reply in Run(graph).replies(text))
 
 
 def main():

@@ -40,19 +40,19 @@ def built():
     return BUILT
 
 
-def run(words, text=b"", stdout=subprocess.PIPE, check=False):
+def run(words, text=b"", stdout=subprocess.PIPE, check=False, seconds=SECONDS):
     """The status and the output of a program with this text as its input. The script ends where the program doesn't end
     in time, or where its status is to be 0 and isn't."""
     with subprocess.Popen(words, stdin=subprocess.PIPE, stdout=stdout) as process:
         # Not the timeout of `communicate`: that asks for the end every now and then, and so adds to the times measured.
-        timer = threading.Timer(SECONDS, process.kill)
+        timer = threading.Timer(seconds, process.kill)
         timer.daemon = True
         begin = time.monotonic()
         timer.start()
         output, _nothing = process.communicate(text)
         timer.cancel()
-    if process.returncode < 0 and time.monotonic() - begin >= SECONDS:
-        sys.exit("`%s` had not ended after %d seconds" % (" ".join(words), SECONDS))
+    if process.returncode < 0 and time.monotonic() - begin >= seconds:
+        sys.exit("`%s` had not ended after %d seconds" % (" ".join(words), seconds))
     if check and process.returncode != 0:
         sys.exit("`%s` ended with status %d" % (" ".join(words), process.returncode))
     return process.returncode, output

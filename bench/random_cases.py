@@ -1,5 +1,5 @@
 """Random small graphs, and random request lines over them: good lines of every kind, pages one after another, and lines
-with one fault or several."""
+with one fault or several; over one version of the graph, or over many with changed lengths."""
 import itertools
 
 import plain
@@ -15,7 +15,8 @@ NO_CURSORS = [
 ]
 NO_REQUESTS = [
     b"hello", b"Route 1 1", b"routes 1 1", b"route", b"route 1", b"optimum 1", b"why 1 1", b"next", b"next 1 1",
-    b"version 1", b"quit 1", b"quit quit", b"QUIT", b"length 1 1", b"publish", b"length", b"1 1", b"#", b"\0",
+    b"version 1", b"quit 1", b"quit quit", b"QUIT", b"Length 1 1", b"publish 1", b"published", b"length", b"length 1",
+    b"length 1 1 1", b"length 1 1/1", b"1 1", b"#", b"\0",
     b"version\0", b"\xff\xfe", b"route\x0b1 1", b"version\x0c", b"optimum 1\xa01", b"\rversion", b"ver sion",
     b"x" * 1024, b"1" * 1025,
 ]
@@ -40,14 +41,15 @@ def stray_arcs(chance, vertices, length):
             yield tail, head, there
 
 
+def random_lengths(chance):
+    """A function that draws lengths: all equal, of few kinds, of many, or nearly as long as a length may be."""
+    least, greatest = chance.choice([(1, 1), (1, 2), (1, 3), (1, 9), (1, 40), (1, 1000), (4294967290, 4294967295)])
+    return lambda: chance.randint(least, greatest)
+
+
 def random_graph(chance):
     """A grid, or a graph of up to ten vertices; now and then no vertex."""
-    lengths = [(1, 1), (1, 2), (1, 3), (1, 9), (1, 40), (1, 1000), (4294967290, 4294967295)]
-    least, greatest = chance.choice(lengths)
-
-    def length():
-        return chance.randint(least, greatest)
-
+    length = random_lengths(chance)
     shape = chance.random()
     if shape < 0.02:
         return plain.Graph(0, [])
@@ -61,11 +63,21 @@ def random_graph(chance):
     return plain.Graph(vertices, arcs)
 
 
+def larger_graph(chance):
+    """A grid, or a graph of 13 to 40 vertices."""
+    length = random_lengths(chance)
+    if chance.random() < 0.5:
+        width, height = chance.choice([(4, 4), (6, 4), (5, 5), (8, 5), (20, 2)])
+        return plain.Graph(width * height, list(grid_arcs(width, height, length)))
+    vertices = chance.randint(13, 40)
+    return plain.Graph(vertices, list(stray_arcs(chance, vertices, length)))
+
+
 class Script:
-    """Request lines over a graph. What they ask next goes by what the definitions reply."""
+    """Request lines over a graph, which stays as it is. What they ask next goes by what the definitions reply."""
 
     def __init__(self, chance, graph):
-        self.chance, self.graph = chance, graph
+        self.chance, self.graph, self.run = chance, graph, plain.Run(graph)
         self.lines, self.cursors, self.fault_rate = [], [], 0
         pairs = itertools.permutations(range(1, graph.vertices + 1), 2)
         self.joined = [ends for ends in pairs if graph.distance(*ends) is not None]
@@ -74,18 +86,25 @@ class Script:
 
     def text(self):
         """Some requests; now and then with a `quit` among them, or without the last line feed."""
-        asks = {
-            self.ask_route: 6, self.ask_why: 5, self.ask_forged: 4, self.ask_optimum: 3, self.ask_nothing: 2,
-            self.ask_why_all: 1, self.ask_version: 1,
-        }
-        for _ in range(self.chance.randint(20, 120)):
-            self.fault_rate = self.chance.choice([0, 0, 0, 0, 0.05, 0.15])
-            self.chance.choices(list(asks), asks.values())[0]()
+        self.ask_all()
         if self.often(0.15):
             self.lines.insert(self.chance.randint(0, len(self.lines)), self.line([b"quit"]))
         if self.often(0.2):
             self.lines[-1] = self.lines[-1][:-1]
         return b"".join(self.lines)
+
+    def ask_all(self):
+        asks = {
+            self.ask_route: 6, self.ask_why: 5, self.ask_forged: 4, self.ask_optimum: 3, self.ask_nothing: 2,
+            self.ask_why_all: 1, self.ask_version: 1,
+        }
+        for _ in range(self.chance.randint(20, 120)):
+            self.ask_one(asks)
+
+    def ask_one(self, asks):
+        """One kind of request, by their weights."""
+        self.fault_rate = self.chance.choice([0, 0, 0, 0, 0.05, 0.15])
+        self.chance.choices(list(asks), asks.values())[0]()
 
     def often(self, rate):
         return self.chance.random() < rate
@@ -118,9 +137,10 @@ class Script:
         return self.chance.choice([1, 1, 1, 2, 2, 3, 4, 5, 6, 64])
 
     def since(self):
+        newest = self.run.newest()
         if self.slips() or self.often(0.1):
-            return self.chance.choice([2, 3, *HUGE])
-        return self.chance.randint(0, 1)
+            return self.chance.choice([newest + 1, newest + 1, newest + 2, *HUGE])
+        return self.chance.choice([0, newest - 1, newest, newest])
 
     def ratio(self, cap, bound):
         """A ratio up to cap; often the one on which some test of the query stands."""
@@ -136,13 +156,14 @@ class Script:
         """Ratios on which some via path of the pair stands: its shared length, the length of one of its subpaths with or
         without its end arcs, and the stretch of that subpath. One that is no ratio within its cap isn't used."""
         is_joined = (source, target) in self.joined
-        query = plain.Query(self.graph, source, target, *WIDE) if is_joined else None
+        graph = self.run.graph(self.run.newest())
+        query = plain.Query(graph, source, target, *WIDE) if is_joined else None
         path = self.chance.choice(sorted(query.path_of.values())) if is_joined else ()
         if not path:
             return (0, 0), (0, 0), (0, 0)
         vertices, sums = query.places(path)
         i, j = sorted(self.chance.sample(range(len(vertices)), 2))
-        whole, distance = sums[j] - sums[i], self.graph.distance(vertices[i], vertices[j])
+        whole, distance = sums[j] - sums[i], graph.distance(vertices[i], vertices[j])
         tested = sums[j - 1] - sums[i + 1] if j >= i + 2 and self.often(0.5) else whole
         return (query.shared(path), query.shortest), (tested, query.shortest), (whole - distance, distance)
 
@@ -187,7 +208,7 @@ class Script:
         """Adds a line, and gives the reply to it."""
         line = self.line([field if isinstance(field, bytes) else str(field).encode() for field in fields])
         self.lines.append(line)
-        return plain.replies(self.graph, line)
+        return b"".join(reply for _line, reply in self.run.replies(line))
 
     # ---- lines of each kind
 
@@ -209,11 +230,13 @@ class Script:
 
     def ask_forged(self):
         """A cursor that was given earlier or never, some of its numbers changed."""
-        usual = "1.%d.%d.4.5.1.4.1.4.%d.%d" % (self.vertex(), self.vertex(), self.size(), self.chance.randint(0, 4))
+        newest = self.run.newest()
+        usual = "%d.%d.%d.4.5.1.4.1.4.%d.%d" % (
+            newest, self.vertex(), self.vertex(), self.size(), self.chance.randint(0, 4))
         numbers = self.chance.choice(self.cursors + [usual]).split(".")
-        changed = ["0", "1", "2", "3", "64", "65", str(self.graph.vertices + 1), *map(str, HUGE)]
+        changed = [0, 1, 2, 3, newest, newest + 1, 64, 65, self.graph.vertices + 1, *HUGE]
         for _ in range(self.chance.choice([0, 1, 1, 2, 3])):
-            numbers[self.chance.randrange(11)] = self.chance.choice(changed)
+            numbers[self.chance.randrange(11)] = str(self.chance.choice(changed))
         if self.slips() or self.often(0.15):
             place = self.chance.randrange(11)
             numbers[place] = self.chance.choice([*NO_NUMBERS, "0" + numbers[place]])
@@ -242,3 +265,75 @@ class Script:
             self.ask(b"")
         else:
             self.ask(self.chance.choice(NO_REQUESTS))
+
+
+class VersionScript(Script):
+    """Request lines over the versions of a graph: changes are staged and published among them, more keys are asked for
+    than are kept, and cursors are used again of kept keys, of dropped ones, and of versions that are none."""
+
+    MOST_LINES, MOST_VERSIONS = 120, 30
+
+    def ask_all(self):
+        asks = {
+            self.ask_again: 9, self.ask_length: 5, self.ask_route: 4, self.ask_why: 2, self.ask_optimum: 2,
+            self.ask_version: 1, self.ask_forged: 1, self.ask_nothing: 1, self.ask_many_keys: 1,
+            self.ask_publish: self.chance.choice([1, 4, 4, 20]),
+        }
+        count = self.chance.randint(10, self.MOST_LINES)
+        while len(self.lines) < count:
+            self.ask_one(asks)
+        del self.lines[count:]
+
+    def ask(self, *fields):
+        """As any script; and a cursor of the key that was used is at hand from then on, whether one was given or not."""
+        before = self.run.keys
+        reply = super().ask(*fields)
+        if self.run.keys != before:
+            version, source, target, ratios = self.run.keys[0]
+            numbers = [version, source, target, *itertools.chain(*ratios), self.chance.choice([1, 1, 2, 5])]
+            self.cursors.append(".".join(map(str, [*numbers, self.chance.randint(0, 3)])))
+        return reply
+
+    def ask_again(self):
+        """The page of an earlier cursor, mostly a late one: as it is, or at another place, or of another version."""
+        if not self.cursors:
+            return self.ask_forged()
+        late = self.cursors[-20:] if self.often(0.8) else self.cursors
+        numbers = self.chance.choice(late).split(".")
+        newest = self.run.newest()
+        if self.often(0.1):
+            numbers[0] = str(self.chance.choice([0, 1, newest - 1, newest, newest + 1, *HUGE]))
+        if self.often(0.1):
+            numbers[9] = str(self.size())
+        if self.often(0.1):
+            numbers[10] = str(self.chance.randint(0, 5))
+        self.ask("next", ".".join(numbers))
+
+    def ask_many_keys(self):
+        """As many keys as are kept or one less or more, each new: the usual ratio, written with other numbers each time."""
+        ends = [self.ends() for _ in range(self.chance.randint(1, 2))]
+        for _ in range(self.chance.randint(plain.KEPT - 1, plain.KEPT + 1)):
+            factor = self.chance.randint(1, 200000)
+            self.ask("route", *self.chance.choice(ends), "gamma", "%d/%d" % (4 * factor, 5 * factor), "size", 1)
+        self.ask_again()
+
+    def ask_length(self):
+        """Some changes; often of the arc of the last one, and of a length that the graph has."""
+        for _ in range(self.chance.choice([1, 1, 1, 2, 3, 5])):
+            arcs = self.graph.arcs
+            arc = self.chance.randint(1, max(len(arcs), 1))
+            if self.run.staged and self.often(0.3):
+                arc = self.run.staged[-1][0]
+            is_old = arcs and self.often(0.5)
+            length = self.chance.choice(arcs)[2] if is_old else self.chance.randint(1, 12)
+            if self.slips() or self.often(0.03):
+                arc = self.chance.choice([0, len(arcs), len(arcs) + 1, (1 << 32) + arc, *HUGE])
+            if self.slips() or self.often(0.05):
+                length = self.chance.choice([0, plain.LONGEST_LENGTH, plain.LONGEST_LENGTH + 1, *HUGE])
+            fields = [self.number(arc), self.number(length), self.number(1)]
+            self.ask("length", *fields[: self.chance.choice([1, 3]) if self.slips() or self.often(0.02) else 2])
+
+    def ask_publish(self):
+        """A version, also of no change; now and then with a field too many."""
+        if self.run.newest() < self.MOST_VERSIONS:
+            self.ask("publish", *([self.number(1)] if self.slips() or self.often(0.05) else []))

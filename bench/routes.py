@@ -2,11 +2,12 @@
 """Measures `route` lines, or those of another word, on whole networks, beside a plain program of the same job: that of
 bench/yardstick, which it builds with rustc, or one that is named.
 
-A graph is a file, or `grid:W:H` (made by `road make 7 W H`), or `road:SIDE` (bench/network.py 1 SIDE). Each round runs
-`answer` over the graph with random pairs and without a request, and takes the difference; the plain program, which takes
+A graph is a file, or `grid:W:H` (made by `road make 7 W H`), or `road:SIDE` (bench/network.py 1 SIDE), or one of
+bench/networks.py, as `star:100000` or `ladder:5000`. Each round runs `answer` over the graph with random pairs and without a request, and takes the difference; the plain program, which takes
 the same words, is run in turn, and the bytes of both are compared. `why` lines ask for a third random vertex. With a rank
 the targets are near: from each random source the 2^K-th vertex in the order of distance. With --before N so many more pairs
-are answered first, and not counted: by then the server may have built its hierarchy. Times are means over the pairs, of the
+are answered first, and not counted: by then the server may have built its hierarchy. With --source and --target what is
+counted is one line alone, between these two. Times are means over the pairs, of the
 quickest round; the spread is the slowest round's by the quickest. Memory is the peak of the resident set.
 """
 import array
@@ -18,6 +19,7 @@ import time
 
 import drawing
 import figures
+import networks
 import program
 
 USUAL = ["grid:60:60", "grid:300:300", "road:100", "road:316"]
@@ -29,6 +31,8 @@ def graph_file(name):
         return program.grid_file(7, int(sides[0]), int(sides[1]))
     if kind == "road":
         return figures.network_file(1, int(sides[0]))
+    if kind in networks.SHAPES:
+        return networks.network_file(kind, int(sides[0]))
     return name
 
 
@@ -67,12 +71,14 @@ def settled(first, steps, source, count):
     return last
 
 
-def requests_of(path, word, pairs, rank):
+def requests_of(path, word, pairs, rank, last):
+    """The lines of so many pairs, and after them of the last one, where it isn't empty."""
     vertices = figures.vertices_of(path)
     ends = [line.split()[1:] for line in drawing.requests(word, 5, pairs, vertices).decode().splitlines()]
     if rank is not None:
         first, steps = arcs_of(path)
         ends = [(source, settled(first, steps, int(source), 2**rank)) for source, _target in ends]
+    ends += [last] if last else []
     lines = ["%s %s %s" % (word, *pair) for pair in ends]
     if word == "why":
         chance = random.Random(6)
@@ -106,17 +112,23 @@ def main():
     words.add_argument("--rounds", type=int, default=3)
     words.add_argument("--rank", type=int, help="targets that are the 2^RANK-th vertex from their source")
     words.add_argument("--before", type=int, default=0, help="so many pairs are answered first, and not counted")
+    words.add_argument("--source", type=int, help="of the one pair that is counted")
+    words.add_argument("--target", type=int)
     given = words.parse_args()
+    if (given.source is None) != (given.target is None):
+        words.error("--source and --target stand together")
+    one = [] if given.source is None else [given.source, given.target]
+    pairs, drawn = (1, given.before) if one else (given.pairs, given.before + given.pairs)
     plain = given.plain or figures.build_yardstick()
     print("| graph | vertices | road, ms | spread | plain, ms | ratio | memory, MB |")
     print("|---|---|---|---|---|---|---|")
     for name in given.graphs:
         path = graph_file(name)
-        text = requests_of(path, given.word, given.before + given.pairs, given.rank)
-        times, output = milliseconds([program.built(), "answer", path], text, given.pairs, given.rounds)
+        text = requests_of(path, given.word, drawn, given.rank, one)
+        times, output = milliseconds([program.built(), "answer", path], text, pairs, given.rounds)
         memory = figures.peak([program.built(), "answer", path], text)
         row = [os.path.basename(name), figures.vertices_of(path), "%.2f" % min(times), "%.2f" % (max(times) / min(times))]
-        others, wanted = milliseconds([plain, "answer", path], text, given.pairs, given.rounds)
+        others, wanted = milliseconds([plain, "answer", path], text, pairs, given.rounds)
         if wanted != output:
             print("%s: another reply than the plain program's" % name)
             sys.exit(1)

@@ -20,15 +20,15 @@ row_is r tail head length a b c =
 last_step : (g : Graph) (s v : ℕ) (radius : Option ℕ) (b : Reached) (x : Step) → IsTreeFrom g s radius b → IsLeastStep (reversed g) s b.labels v x → IsLastStep g radius s v x
 last_step g s v radius b x tree h =
     let rooted = rooted_from g s radius b tree in
-    let rest = last_exists (reversed g) s x.head h.near b.labels rooted h.behind in
+    let rest = last_exists (reversed g) s x.head h.near b.labels rooted h.beyond in
     let whole = IsFirst-unreversed g s v (x.arc ∷ rest.path) (IsLast-step (reversed g) s v b.labels x rest.path rooted h rest.last) in
     let tight = h.least.tight in
     record {
       inside = inside_of g s v (x.length + h.near) radius b.labels tree.ball.labelled h.label;
       other = h.other;
       arc = arc_unreversed g x.arc h.row tight.is ∙ ap (λ (r : ArcRow). Some (turned r)) (row_is h.row v x.head x.length tight.tail (sym h.head) (sym h.long));
-      front = reverse rest.path;
-      behind = IsFirst-unreversed g s x.head rest.path rest.last;
+      prefix = reverse rest.path;
+      beyond = IsFirst-unreversed g s x.head rest.path rest.last;
       path = subst (λ (p : List ℕ). IsFirst g s p v) (reverse-cons x.arc rest.path) whole;
     }
 
@@ -40,14 +40,14 @@ from_step g s v radius b (Some x) tree h = last_step g s v radius b x tree h
 first_step : (g : Graph) (t v : ℕ) (radius : Option ℕ) (b : Reached) (x : Step) → IsTreeTo g t radius b → IsLeastStep g t b.labels v x → IsFirstStep g radius v t x
 first_step g t v radius b x tree h =
     let rooted = rooted_to g t radius b tree in
-    let rest = last_exists g t x.head h.near b.labels rooted h.behind in
+    let rest = last_exists g t x.head h.near b.labels rooted h.beyond in
     let tight = h.least.tight in
     record {
       inside = IsInside-unreversed g t v radius (inside_of (reversed g) t v (x.length + h.near) radius b.labels tree.ball.labelled h.label);
       other = h.other;
       arc = tight.is ∙ ap (λ (r : ArcRow). Some r) (row_is h.row v x.head x.length tight.tail (sym h.head) (sym h.long));
       back = rest.path;
-      behind = rest.last;
+      beyond = rest.last;
       path = IsLast-step g t v b.labels x rest.path rooted h rest.last;
     }
 
@@ -58,7 +58,7 @@ to_step g t v radius b None tree (inr none) =
 to_step g t v radius b (Some x) tree h = first_step g t v radius b x tree h
 
 pub last_arc : (g : Graph) (s v : ℕ) (radius : Option ℕ) (x : Step) → IsLastStep g radius s v x → IsLastArc g radius s v x.arc
-last_arc g s v radius x h = record { inside = h.inside; other = h.other; front = h.front; path = h.path }
+last_arc g s v radius x h = record { inside = h.inside; other = h.other; prefix = h.prefix; path = h.path }
 
 pub first_arc : (g : Graph) (t v : ℕ) (radius : Option ℕ) (x : Step) → IsFirstStep g radius v t x → IsFirstArc g radius v t x.arc
 first_arc g t v radius x h = record { inside = h.inside; other = h.other; back = h.back; path = h.path }

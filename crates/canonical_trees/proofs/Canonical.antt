@@ -31,13 +31,13 @@ begins g t v b q h =
     (record { path = b ∷ q; walk = h.walk; long = omega arith }, (λ x w. let other : walk_length g (b ∷ q) ≤ walk_length g x = h.least x w in omega arith)) in
     record {
       row = row;
-      tight = record { is = h.walk.1; tail = h.walk.2; behind = dist_of_shortest g row.head t q rest; whole = whole };
+      tight = record { is = h.walk.1; tail = h.walk.2; beyond = dist_of_shortest g row.head t q rest; whole = whole };
       rest = rest;
     }
 
 pub IsTight-shortest : (g : Graph) (t v a : ℕ) (r : ArcRow) (near : ℕ) (p : List ℕ) → IsTight g t v a r near → IsShortest g r.head p t → IsShortest g v (a ∷ p) t
 IsTight-shortest g t v a r near p h k =
-    let same : walk_length g p ≡ near = IsDist-same g r.head t (walk_length g p) near (dist_of_shortest g r.head t p k) h.behind in
+    let same : walk_length g p ≡ near = IsDist-same g r.head t (walk_length g p) near (dist_of_shortest g r.head t p k) h.beyond in
     let long : length_at g a ≡ r.length = ap row_length h.is in
     record {
       walk = (r, h.is, h.tail, k.walk);

@@ -169,7 +169,7 @@ least_tight g t v k dist found =
       tight = record {
         is = first.is;
         tail = first.tail;
-        behind = (
+        beyond = (
           first.rest,
           (λ p walk.
               let whole : k ≤ length_at g found.at + walk_length g p = dist.1 (found.at ∷ p) (first.row, first.is, first.tail, walk) in
@@ -183,7 +183,7 @@ least_tight g t v k dist found =
         tail = tight.tail;
         left = near;
         sum = IsDist-same g v t (x.length + near) k tight.whole dist;
-        rest = tight.behind.0;
+        rest = tight.beyond.0;
       }));
     }
 
@@ -199,7 +199,7 @@ last_within (suc n) g t v k sound lt dist =
     (λ (first : HasLeast (BeginsWith g t v k)).
     let one : 1 ≤ first.is.row.length = (IsArc-at g first.at first.is.row sound first.is.is).positive in
     let least : IsLeastTight g t v first.at first.is.row first.is.left = least_tight g t v k dist first in
-    let rest = last_within n g t first.is.row.head first.is.left sound (omega (arith, first.is.sum)) least.tight.behind in
+    let rest = last_within n g t first.is.row.head first.is.left sound (omega (arith, first.is.sum)) least.tight.beyond in
     let found : HasLast g v t = record { path = first.at ∷ rest.path; last = IsLast-cons g t v first.at first.is.row first.is.left rest.path sound least rest.last } in
     found)
     (λ (none : (a : ℕ) → BeginsWith g t v k a → ⊥). absurd (other (no_arc g t v k dist.0.path dist.0.walk dist.0.long none).0))

@@ -6,7 +6,7 @@ use Rattle.road_model.specs.Walk.{IsWalk, walk_length}
 use Rattle.road_model.specs.Dist.{IsShortest}
 use Rattle.road_model.specs.Canonical.{LexLe, IsFirst, IsLast}
 use Rattle.road_model.proofs.Walks.{Cut, cut, IsWalk-append, IsWalk-end, walk_length-append}
-use Rattle.road_model.proofs.Dists.{IsDist-same, dist_of_shortest, front_of_shortest, back_of_shortest}
+use Rattle.road_model.proofs.Dists.{IsDist-same, dist_of_shortest, prefix_of_shortest, back_of_shortest}
 use Rattle.tree_search.specs.Ball.{IsWithin}
 use Rattle.canonical_trees.specs.Trees.{IsInside}
 
@@ -17,32 +17,32 @@ LexLe-strip (a ∷ x) p q (inr same) = LexLe-strip x p q same.1
 
 -- what a walk goes on with, where it is known to which vertex its first part leads
 pub rest_of_walk : (g : Graph) (a b : List ℕ) (u v w : ℕ) → IsWalk g u (a ++ b) w → IsWalk g u a v → IsWalk g v b w
-rest_of_walk g a b u v w whole front =
+rest_of_walk g a b u v w whole prefix =
     let parts : Cut g u a b w = cut g a b u w whole in
-    subst (λ (x : ℕ). IsWalk g x b w) (IsWalk-end g a u parts.middle v parts.front front) parts.back
+    subst (λ (x : ℕ). IsWalk g x b w) (IsWalk-end g a u parts.middle v parts.prefix prefix) parts.back
 
 -- a walk that is no longer than a shortest one is shortest
 as_short : (g : Graph) (u v : ℕ) (p q : List ℕ) → IsShortest g u p v → IsWalk g u q v → walk_length g q ≤ walk_length g p → IsShortest g u q v
 as_short g u v p q h walk le = record { walk = walk; least = (λ x other. omega (arith, h.least x other)) }
 
 pub back_of_last : (g : Graph) (a b : List ℕ) (u v t : ℕ) → IsLast g u (a ++ b) t → IsWalk g u a v → IsLast g v b t
-back_of_last g a b u v t h front =
-    let back : IsWalk g v b t = rest_of_walk g a b u v t h.shortest.walk front in
+back_of_last g a b u v t h prefix =
+    let back : IsWalk g v b t = rest_of_walk g a b u v t h.shortest.walk prefix in
     record {
-      shortest = back_of_shortest g a b u v t h.shortest front back;
+      shortest = back_of_shortest g a b u v t h.shortest prefix back;
       least = (λ q other.
           let le : walk_length g q ≤ walk_length g b = other.least b back in
-          LexLe-strip a b q (h.least (a ++ q) (as_short g u t (a ++ b) (a ++ q) h.shortest (IsWalk-append g a q u v t front other.walk)
+          LexLe-strip a b q (h.least (a ++ q) (as_short g u t (a ++ b) (a ++ q) h.shortest (IsWalk-append g a q u v t prefix other.walk)
           (omega (arith, walk_length-append g a b, walk_length-append g a q)))));
     }
 
-pub front_of_first : (g : Graph) (a b : List ℕ) (s v w : ℕ) → IsFirst g s (a ++ b) w → IsWalk g s a v → IsFirst g s a v
-front_of_first g a b s v w h front =
-    let back : IsWalk g v b w = rest_of_walk g a b s v w h.shortest.walk front in
+pub prefix_of_first : (g : Graph) (a b : List ℕ) (s v w : ℕ) → IsFirst g s (a ++ b) w → IsWalk g s a v → IsFirst g s a v
+prefix_of_first g a b s v w h prefix =
+    let back : IsWalk g v b w = rest_of_walk g a b s v w h.shortest.walk prefix in
     record {
-      shortest = front_of_shortest g a b s v w h.shortest front back;
+      shortest = prefix_of_shortest g a b s v w h.shortest prefix back;
       least = (λ q other.
-          let le : walk_length g q ≤ walk_length g a = other.least a front in
+          let le : walk_length g q ≤ walk_length g a = other.least a prefix in
           let whole : LexLe (reverse (a ++ b)) (reverse (q ++ b)) = h.least (q ++ b) (as_short g s w (a ++ b) (q ++ b) h.shortest (IsWalk-append g q b s v w other.walk back)
           (omega (arith, walk_length-append g a b, walk_length-append g q b))) in
           LexLe-strip (reverse b) (reverse a) (reverse q)

@@ -93,7 +93,7 @@ last_within (suc n) g t v k labels rooted lt label =
     let one = step_positive g t v labels next.step rooted next.least in
     let both : Some k ≡ Some (next.step.length + next.least.near) = sym label ∙ next.least.label in
     let sum : k ≡ next.step.length + next.least.near = cc in
-    let rest = last_within n g t next.step.head next.least.near labels rooted (omega arith) next.least.behind in
+    let rest = last_within n g t next.step.head next.least.near labels rooted (omega arith) next.least.beyond in
     let found : HasLast g v t = record { path = next.step.arc ∷ rest.path; last = IsLast-step g t v labels next.step rest.path rooted next.least rest.last } in
     found)
     (cases_eq v t)

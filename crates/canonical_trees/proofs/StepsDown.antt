@@ -11,18 +11,18 @@ use Rattle.road_model.specs.Canonical.{IsLast}
 use Rattle.road_model.proofs.Walks.{IsArc-at}
 use Rattle.road_model.proofs.Dists.{IsDist-same, shortest_of_dist}
 use Rattle.tree_search.specs.Ball.{label_at}
-use Rattle.canonical_trees.specs.Tight.{IsTight, IsRooted, HasTightLabel, IsLeastStep, Adds}
+use Rattle.canonical_trees.specs.Tight.{IsTight, IsRooted, HasTightLabel, IsLeastStep, AddsPath}
 use Rattle.canonical_trees.proofs.Steps.{IsStepOf, step_row, step_of_arc, steps_rise}
 use Rattle.canonical_trees.proofs.Canonical.{begins, IsLast-cons, IsLast-nil}
 
-behind_cases : (g : Graph) (t v left b : ℕ) (labels : List (Option ℕ)) (x : ArcRow) (k : ℕ) (o : Option ℕ) → IsRooted g t labels → label_at labels v ≡ Some left → IsTight g t v b x k → label_at labels x.head ≡ o → label_at labels x.head ≡ Some k
-behind_cases g t v left b labels x k None rooted label tight is =
-    let walk = tight.behind.0 in
+beyond_cases : (g : Graph) (t v left b : ℕ) (labels : List (Option ℕ)) (x : ArcRow) (k : ℕ) (o : Option ℕ) → IsRooted g t labels → label_at labels v ≡ Some left → IsTight g t v b x k → label_at labels x.head ≡ o → label_at labels x.head ≡ Some k
+beyond_cases g t v left b labels x k None rooted label tight is =
+    let walk = tight.beyond.0 in
     let near : left < walk_length g walk.path = rooted.reach x.head v left walk.path is walk.walk label in
     let whole : left ≡ x.length + k = IsDist-same g v t left (x.length + k) (rooted.exact v left label) tight.whole in
     absurd (omega (arith, walk.long))
-behind_cases g t v left b labels x k (Some m) rooted label tight is =
-    is ∙ ap (λ (n : ℕ). Some n) (IsDist-same g x.head t m k (rooted.exact x.head m is) tight.behind)
+beyond_cases g t v left b labels x k (Some m) rooted label tight is =
+    is ∙ ap (λ (n : ℕ). Some n) (IsDist-same g x.head t m k (rooted.exact x.head m is) tight.beyond)
 
 -- a tight arc's step has the label that fits
 tight_label : (g : Graph) (t v left b : ℕ) (labels : List (Option ℕ)) (x : ArcRow) (k : ℕ) → IsRooted g t labels → label_at labels v ≡ Some left → IsTight g t v b x k → HasTightLabel labels left (step_of b x)
@@ -30,7 +30,7 @@ tight_label g t v left b labels x k rooted label tight =
     let whole : x.length + k ≡ left = IsDist-same g v t (x.length + k) left tight.whole (rooted.exact v left label) in
     record {
       near = k;
-      label = behind_cases g t v left b labels x k (label_at labels x.head) rooted label tight refl;
+      label = beyond_cases g t v left b labels x k (label_at labels x.head) rooted label tight refl;
       sum = whole;
     }
 
@@ -39,12 +39,12 @@ NoneBefore g v left labels i = (j : ℕ) (s : Step) → j < i → step_at g v j 
 
 tight_of_step : (g : Graph) (t v left : ℕ) (labels : List (Option ℕ)) (s : Step) → IsRooted g t labels → label_at labels v ≡ Some left → (r : IsStepOf g v s) (h : HasTightLabel labels left s) → IsTight g t v s.arc r.row h.near
 tight_of_step g t v left labels s rooted label r h =
-    let behind : IsDist g r.row.head t (Some h.near) = subst (λ (u : ℕ). IsDist g u t (Some h.near)) r.head (rooted.exact s.head h.near h.label) in
+    let beyond : IsDist g r.row.head t (Some h.near) = subst (λ (u : ℕ). IsDist g u t (Some h.near)) r.head (rooted.exact s.head h.near h.label) in
     let sum : left ≡ r.row.length + h.near = sym h.sum ∙ ap (λ (n : ℕ). n + h.near) r.long in
     record {
       is = r.arc;
       tail = r.tail;
-      behind = behind;
+      beyond = beyond;
       whole = subst (λ (n : ℕ). IsDist g v t (Some n)) sum (rooted.exact v left label);
     }
 
@@ -79,7 +79,7 @@ least_step g t v left i labels s rooted other label before is h =
       least = record { tight = tight_of_step g t v left labels s rooted label r h; least = least };
       other = other;
       label = label ∙ ap (λ (n : ℕ). Some n) (sym h.sum);
-      behind = h.label;
+      beyond = h.label;
     }
 
 found_before : (g : Graph) (v i j : ℕ) (s : Step) → step_at g v i ≡ None → step_at g v j ≡ Some s → j < i
@@ -132,7 +132,7 @@ walked_all g t v at walk same walked =
     subst (λ (p : List ℕ). IsLast g v p t) (append-nil walk)
     (walked [] (subst (λ (u : ℕ). IsLast g u [] t) (sym same) (IsLast-nil g t)))
 
-pub adds : (g : Graph) (t v at : ℕ) (labels : List (Option ℕ)) (old new walk : List ℕ) → (at ≡ t) ⊎ (label_at labels at ≡ None) → IsSome (label_at labels at) → new ≡ old ++ walk → ((rest : List ℕ) → IsLast g at rest t → IsLast g v (walk ++ rest) t) → Adds g t v old new
+pub adds : (g : Graph) (t v at : ℕ) (labels : List (Option ℕ)) (old new walk : List ℕ) → (at ≡ t) ⊎ (label_at labels at ≡ None) → IsSome (label_at labels at) → new ≡ old ++ walk → ((rest : List ℕ) → IsLast g at rest t → IsLast g v (walk ++ rest) t) → AddsPath g t v old new
 adds g t v at labels old new walk (inl same) some is walked =
     record { walk = walk; is = is; last = walked_all g t v at walk same walked }
 adds g t v at labels old new walk (inr none) some is walked =

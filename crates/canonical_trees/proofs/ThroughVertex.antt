@@ -10,22 +10,22 @@ use Rattle.road_model.proofs.CanonicalWalks.{IsFirst-unique, IsLast-unique}
 
 pub IsVia-unique : (g : Graph) (s t v : ℕ) (p q : List ℕ) → IsVia g s t v p → IsVia g s t v q → p ≡ q
 IsVia-unique g s t v p q h k =
-    let front : h.front ≡ k.front = IsFirst-unique g s v h.front k.front h.first k.first in
+    let prefix : h.prefix ≡ k.prefix = IsFirst-unique g s v h.prefix k.prefix h.first k.first in
     let back : h.back ≡ k.back = IsLast-unique g v t h.back k.back h.last k.last in
-    h.joined ∙ (ap (λ (x : List ℕ). x ++ h.back) front ∙ (ap (λ (x : List ℕ). k.front ++ x) back ∙ sym k.joined))
+    h.joined ∙ (ap (λ (x : List ℕ). x ++ h.back) prefix ∙ (ap (λ (x : List ℕ). k.prefix ++ x) back ∙ sym k.joined))
 
 pub via_walk : (g : Graph) (s t v : ℕ) (p : List ℕ) → IsVia g s t v p → IsWalk g s p t
 via_walk g s t v p h =
     subst (λ (x : List ℕ). IsWalk g s x t) (sym h.joined)
-    (IsWalk-append g h.front h.back s v t h.first.shortest.walk h.last.shortest.walk)
+    (IsWalk-append g h.prefix h.back s v t h.first.shortest.walk h.last.shortest.walk)
 
-pub via_parts : (g : Graph) (s t v : ℕ) (p : List ℕ) (h : IsVia g s t v p) → walk_length g p ≡ walk_length g h.front + walk_length g h.back
+pub via_parts : (g : Graph) (s t v : ℕ) (p : List ℕ) (h : IsVia g s t v p) → walk_length g p ≡ walk_length g h.prefix + walk_length g h.back
 via_parts g s t v p h =
-    ap (λ (x : List ℕ). walk_length g x) h.joined ∙ walk_length-append g h.front h.back
+    ap (λ (x : List ℕ). walk_length g x) h.joined ∙ walk_length-append g h.prefix h.back
 
-pub near_of_via : (g : Graph) (s t v a : ℕ) (p : List ℕ) (h : IsVia g s t v p) → IsDist g s v (Some a) → walk_length g h.front ≡ a
+pub near_of_via : (g : Graph) (s t v a : ℕ) (p : List ℕ) (h : IsVia g s t v p) → IsDist g s v (Some a) → walk_length g h.prefix ≡ a
 near_of_via g s t v a p h d =
-    IsDist-same g s v (walk_length g h.front) a (dist_of_shortest g s v h.front h.first.shortest) d
+    IsDist-same g s v (walk_length g h.prefix) a (dist_of_shortest g s v h.prefix h.first.shortest) d
 
 pub via_length : (g : Graph) (s t v a b : ℕ) (p : List ℕ) → IsVia g s t v p → IsDist g s v (Some a) → IsDist g v t (Some b) → walk_length g p ≡ a + b
 via_length g s t v a b p h d e =

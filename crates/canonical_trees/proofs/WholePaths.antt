@@ -8,13 +8,13 @@ use Rattle.road_model.specs.Alternatives.{IsVia}
 use Rattle.road_model.proofs.Dists.{IsDist-same, dist_of_shortest}
 use Rattle.forward_star.proofs.Bound.{dists_below}
 use Rattle.tree_search.specs.Ball.{label_at, label_within, Reached, IsLabelled, IsLabelledTo}
-use Rattle.canonical_trees.specs.Tight.{IsRooted, Adds}
+use Rattle.canonical_trees.specs.Tight.{IsRooted, AddsPath}
 use Rattle.canonical_trees.specs.Trees.{IsInside, IsLabel, IsTreeFrom, IsTreeTo}
 use Rattle.canonical_trees.proofs.Turned.{IsFirst-unreversed}
 use Rattle.canonical_trees.proofs.Balls.{rooted_from_source, some_label, IsInside-reversed, inside_vertex, dist_below}
 
 -- a walk that was followed in the reversed graph, read backwards
-pub path_of_followed : (g h : Graph) (s v : ℕ) (old added path : List ℕ) → h ≡ reversed g → Adds h s v old added → old ≡ [] → path ≡ reverse added → IsFirst g s path v
+pub path_of_followed : (g h : Graph) (s v : ℕ) (old added path : List ℕ) → h ≡ reversed g → AddsPath h s v old added → old ≡ [] → path ≡ reverse added → IsFirst g s path v
 path_of_followed g h s v old added path same adds nothing is =
     let walk : added ≡ adds.walk = adds.is ∙ ap (λ (l : List ℕ). l ++ adds.walk) nothing in
     let turned : path ≡ reverse adds.walk = is ∙ ap (λ (l : List ℕ). reverse l) walk in
@@ -30,9 +30,9 @@ labelled_to g t v radius b labels kept tree inside =
     (some_label (reversed g) t v radius b.labels (label_at b.labels v) tree.ball.labelled refl (IsInside-reversed g t v radius inside))
 
 -- the two halves of a path through v
-pub via_of_halves : (g : Graph) (s t v : ℕ) (front path : List ℕ) → IsVertex g.vertices v → IsFirst g s front v → Adds g t v front path → IsVia g s t v path
-via_of_halves g s t v front path vertex first adds =
-    record { vertex = vertex; front = front; back = adds.walk; first = first; last = adds.last; joined = adds.is }
+pub via_of_halves : (g : Graph) (s t v : ℕ) (prefix path : List ℕ) → IsVertex g.vertices v → IsFirst g s prefix v → AddsPath g t v prefix path → IsVia g s t v path
+via_of_halves g s t v prefix path vertex first adds =
+    record { vertex = vertex; prefix = prefix; back = adds.walk; first = first; last = adds.last; joined = adds.is }
 
 -- the labels of a search to a target that was found
 pub rooted_found : (g : Graph) (s t distance : ℕ) (values : List ℕ) (labels : List (Option ℕ)) → IsWithinLimits g → IsLabelledTo g s t values distance → labels ≡ map (label_within distance) values → IsRooted (reversed g) s labels

@@ -6,7 +6,7 @@
 --   HasTightLabel labels left s  the label of the head of s and the length of s make what is left
 --   IsLeastStep g t labels v s   the step s is the least tight arc out of v, which has a label and isn't t
 --   IsStepDown                   Some: such a step; None: v is t, or has no label
---   Adds g t v old new           the list goes on with the canonical path from v to t
+--   AddsPath g t v old new           the list goes on with the canonical path from v to t
 use Rattle.std.specs.Prelude.{◌≡◌, ◌≢◌, ◌<◌, ◌≤◌, ◌⊎◌, ◌+◌, ◌^◌, ℕ, List, ◌++◌, Option, Some, None}
 use Rattle.road_model.specs.declared.rows.ArcRow.{ArcRow}
 use Rattle.road_model.specs.declared.network.Step.{Step}
@@ -19,7 +19,7 @@ use Rattle.tree_search.specs.Ball.{label_at}
 pub record IsTight (g : Graph) (t v a : ℕ) (r : ArcRow) (near : ℕ) : Type 0 where
   pub is : arc_at g a ≡ Some r
   pub tail : r.tail ≡ v
-  pub behind : IsDist g r.head t (Some near)
+  pub beyond : IsDist g r.head t (Some near)
   pub whole : IsDist g v t (Some (r.length + near))
 
 pub record IsLeastTight (g : Graph) (t v a : ℕ) (r : ArcRow) (near : ℕ) : Type 0 where
@@ -45,13 +45,13 @@ pub record IsLeastStep (g : Graph) (t : ℕ) (labels : List (Option ℕ)) (v : �
   pub least : IsLeastTight g t v s.arc row near
   pub other : v ≢ t
   pub label : label_at labels v ≡ Some (s.length + near)
-  pub behind : label_at labels s.head ≡ Some near
+  pub beyond : label_at labels s.head ≡ Some near
 
 abbrev pub IsStepDown : Graph → ℕ → List (Option ℕ) → ℕ → Option Step → Type 0
 IsStepDown g t labels v None = (v ≡ t) ⊎ (label_at labels v ≡ None)
 IsStepDown g t labels v (Some s) = IsLeastStep g t labels v s
 
-pub record Adds (g : Graph) (t v : ℕ) (old new : List ℕ) : Type 0 where
+pub record AddsPath (g : Graph) (t v : ℕ) (old new : List ℕ) : Type 0 where
   pub walk : List ℕ
   pub is : new ≡ old ++ walk
   pub last : IsLast g v walk t

@@ -65,16 +65,16 @@ pub record IsLastStep (g : Graph) (radius : Option ℕ) (s v : ℕ) (x : Step) :
   pub inside : IsInside g radius s v
   pub other : v ≢ s
   pub arc : arc_at g x.arc ≡ Some (record { tail = x.head; head = v; length = x.length })
-  pub front : List ℕ
-  pub behind : IsFirst g s front x.head
-  pub path : IsFirst g s (front ++ x.arc ∷ []) v
+  pub prefix : List ℕ
+  pub beyond : IsFirst g s prefix x.head
+  pub path : IsFirst g s (prefix ++ x.arc ∷ []) v
 
 pub record IsFirstStep (g : Graph) (radius : Option ℕ) (v t : ℕ) (x : Step) : Type 0 where
   pub inside : IsInside g radius v t
   pub other : v ≢ t
   pub arc : arc_at g x.arc ≡ Some (record { tail = v; head = x.head; length = x.length })
   pub back : List ℕ
-  pub behind : IsLast g x.head back t
+  pub beyond : IsLast g x.head back t
   pub path : IsLast g v (x.arc ∷ back) t
 
 abbrev pub IsFromStep : Graph → Option ℕ → ℕ → ℕ → Option Step → Type 0
@@ -88,8 +88,8 @@ IsToStep g radius v t (Some x) = IsFirstStep g radius v t x
 pub record IsLastArc (g : Graph) (radius : Option ℕ) (s v a : ℕ) : Type 0 where
   pub inside : IsInside g radius s v
   pub other : v ≢ s
-  pub front : List ℕ
-  pub path : IsFirst g s (front ++ a ∷ []) v
+  pub prefix : List ℕ
+  pub path : IsFirst g s (prefix ++ a ∷ []) v
 
 pub record IsFirstArc (g : Graph) (radius : Option ℕ) (v t a : ℕ) : Type 0 where
   pub inside : IsInside g radius v t

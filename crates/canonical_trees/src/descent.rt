@@ -2,7 +2,7 @@
 
 ghost use Rattle.std.specs.Prelude.{◌≡◌, ◌↔◌, ◌^◌, IsTrue, IsSome, OnOk};
 ghost use Rattle.road_model.specs.Graph.{LengthsBelow};
-ghost use Rattle.canonical_trees.specs.Tight.{IsRooted, HasTightLabel, IsStepDown, Adds};
+ghost use Rattle.canonical_trees.specs.Tight.{IsRooted, HasTightLabel, IsStepDown, AddsPath};
 ghost use Rattle.canonical_trees.specs.Kept.{AreSteps};
 ghost use Rattle.tree_search.specs.Ball.{label_at};
 
@@ -130,7 +130,7 @@ pub(crate) fn follow<N: Network>(
     requires rooted { IsRooted (N.graph net.now) root labels.now }
     requires steps { AreSteps (N.graph net.now) root labels.now steps.now }
     requires labelled { IsSome (label_at labels.now v) }
-    ensures { OnOk result (Adds (N.graph net.now) root v arcs.old.items arcs.new.items) }
+    ensures { OnOk result (AddsPath (N.graph net.now) root v arcs.old.items arcs.new.items) }
 {
     let mut at = v;
     while let Some(step) = step_at(net, labels, steps, root, at) {

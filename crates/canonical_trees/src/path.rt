@@ -90,7 +90,7 @@ pub fn optimum_in(
     ensures found { IfOk result (λ best. IsOptimum star.now s t best) }
     ensures short { IfOk result (λ best. IfSome best (λ o. o.length < 2 ^ 57)) }
 {
-    let _limits = star.graph();
+    star.within_limits();
     let Some(length) = labels_to(alloc, &mut memory.from, star, s, t)? else {
         return Ok(None);
     };

@@ -30,9 +30,6 @@ static LONG: [Arc; 3] = [(1, 2, 4294967295), (2, 3, 4294967295), (3, 3, 42949672
 
 static BARE: [Arc; 0] = [];
 
-// No step is kept, none, those of the optimum in A, those of other paths too, and all.
-const MOST: [Option<u64>; 5] = [None, Some(0), Some(20), Some(22), Some(u64::MAX)];
-
 #[derive(Clone, Copy)]
 enum Name {
     A,
@@ -92,7 +89,7 @@ fn star_of(alloc: Global, name: Name) -> Result<Star, Fail> {
 fn is_vertex(star: &Star, v: u32) -> bool
     ensures { IsTrue result ↔ IsVertex star.now.vertices v }
 {
-    v >= 1 && v <= star.graph().vertices()
+    v >= 1 && v <= star.vertices()
 }
 
 // The arcs as a text, as "3 4 5".
@@ -143,13 +140,13 @@ fn finds_the_optimum(rt: HostRuntime) -> Result<(), Fail> {
     Ok(())
 }
 
-// The path through a vertex, where the steps are kept of those whose paths are at most so long.
+// The path through a vertex. Steps are kept for the paths of at most so much, if that is given.
 fn through(
     alloc: Global,
     name: Name,
     radius: Option<u64>,
-    via: u32,
     most: Option<u64>,
+    via: u32,
 ) -> Result<String, Fail> {
     let star = star_of(alloc, name)?;
     let to = vertices_of(name);
@@ -160,8 +157,8 @@ fn through(
         return Err("no vertex to end at".into());
     }
     let mut pair = trees(alloc, &star, Vertex(1), Vertex(to), radius)?;
-    if let Some(most) = most {
-        pair.keep_steps(most)?;
+    if let Some(length) = most {
+        pair.keep_steps(length)?;
     }
     match via_path(alloc, &pair, Vertex(via))? {
         Some(path) => text_of(alloc, path.as_slice()),
@@ -173,38 +170,43 @@ fn through(
 #[test]
 fn finds_paths_through_vertices(rt: HostRuntime) -> Result<(), Fail> {
     let rows = [
-        (Name::A, Some(25), 4, " 3 4 5"),
-        (Name::A, Some(25), 3, " 3 4 5"),
-        (Name::A, Some(25), 2, " 1 2"),
-        (Name::A, Some(25), 5, "none"),
-        (Name::A, Some(25), 0, "none"),
-        (Name::A, Some(25), 7, "none"),
-        (Name::A, Some(16), 4, "none"),
-        (Name::A, None, 4, " 3 4 5"),
-        (Name::A, Some(u64::MAX), 4, " 3 4 5"),
-        (Name::D, Some(10), 1, " 1 4"),
-        (Name::D, Some(10), 4, " 3 2"),
-        (Name::OneVertex, Some(0), 1, ""),
+        (Name::A, Some(25), None, 4, " 3 4 5"),
+        (Name::A, Some(25), None, 3, " 3 4 5"),
+        (Name::A, Some(25), None, 2, " 1 2"),
+        (Name::A, Some(25), None, 5, "none"),
+        (Name::A, Some(25), None, 0, "none"),
+        (Name::A, Some(25), None, 7, "none"),
+        (Name::A, Some(16), None, 4, "none"),
+        (Name::A, None, None, 4, " 3 4 5"),
+        (Name::A, Some(u64::MAX), None, 4, " 3 4 5"),
+        (Name::D, Some(10), None, 1, " 1 4"),
+        (Name::D, Some(10), None, 4, " 3 2"),
+        (Name::OneVertex, Some(0), None, 1, ""),
+        (Name::A, Some(25), Some(0), 4, " 3 4 5"),
+        (Name::A, Some(25), Some(20), 3, " 3 4 5"),
+        (Name::A, Some(25), Some(22), 3, " 3 4 5"),
+        (Name::A, Some(25), Some(22), 2, " 1 2"),
+        (Name::A, Some(25), Some(u64::MAX), 5, "none"),
+        (Name::D, Some(10), Some(10), 1, " 1 4"),
+        (Name::D, Some(10), Some(10), 4, " 3 2"),
     ];
-    for (name, radius, via, wanted) in rows {
-        for most in MOST {
-            let found = through(rt.alloc(), name, radius, via, most)?;
-            assert_eq!(rt; found.as_str(), wanted);
-        }
+    for (name, radius, most, via, wanted) in rows {
+        let found = through(rt.alloc(), name, radius, most, via)?;
+        assert_eq!(rt; found.as_str(), wanted);
     }
     Ok(())
 }
 
-// How many arcs the path through a vertex has, from 1 to the last one, by trees in a kept memory. The trees keep their
-// steps if they are asked to.
+// How many arcs the path through a vertex has, from 1 to the last one, by trees in a kept memory. Steps are kept for the
+// paths of at most so much.
 fn kept(
     alloc: Global,
     memory: &mut TreeMemory,
     star: &Star,
+    most: u64,
     via: u32,
-    keeps: bool,
 ) -> Result<usize, Fail> {
-    let to = star.graph().vertices();
+    let to = star.vertices();
     if !is_vertex(star, 1) {
         return Err("no vertex to begin at".into());
     }
@@ -212,9 +214,7 @@ fn kept(
         return Err("no vertex to end at".into());
     }
     let mut pair = trees_in(alloc, memory, star, Vertex(1), Vertex(to), None)?;
-    if keeps {
-        pair.keep_steps(25)?;
-    }
+    pair.keep_steps(most)?;
     let path = via_path(alloc, &pair, Vertex(via))?;
     *memory = pair.into_memory();
     Ok(path.map_or(0, |arcs| arcs.len()))
@@ -225,11 +225,9 @@ fn serves_graphs_of_two_sizes_in_one_memory(rt: HostRuntime) -> Result<(), Fail>
     let large = star_of(rt.alloc(), Name::A)?;
     let small = star_of(rt.alloc(), Name::D)?;
     let mut memory = TreeMemory::new(rt.alloc());
-    assert_eq!(rt; kept(rt.alloc(), &mut memory, &large, 4, true)?, 3);
-    assert_eq!(rt; kept(rt.alloc(), &mut memory, &large, 2, false)?, 2);
-    assert_eq!(rt; kept(rt.alloc(), &mut memory, &large, 4, true)?, 3);
-    assert_eq!(rt; kept(rt.alloc(), &mut memory, &small, 1, false)?, 2);
-    assert_eq!(rt; kept(rt.alloc(), &mut memory, &small, 4, true)?, 2);
+    assert_eq!(rt; kept(rt.alloc(), &mut memory, &large, 22, 4)?, 3);
+    assert_eq!(rt; kept(rt.alloc(), &mut memory, &large, 20, 2)?, 2);
+    assert_eq!(rt; kept(rt.alloc(), &mut memory, &small, 0, 1)?, 2);
     Ok(())
 }
 
@@ -277,29 +275,45 @@ fn halves(alloc: Global, star: &Star, radius: u64) -> Result<TreePair<'_>, Fail>
     Ok(TreePair::of(from, to))
 }
 
+// The labels and the arcs of each vertex, from 1 and to 6.
+static ROWS: [(u32, &str); 8] = [
+    (0, "- - - -"),
+    (1, "0 - - -"),
+    (2, "10 10 1 2"),
+    (3, "11 11 3 4"),
+    (4, "17 5 4 5"),
+    (5, "- - - -"),
+    (6, "- 0 - -"),
+    (7, "- - - -"),
+];
+
 #[test]
-fn shows_labels_members_and_arcs(rt: HostRuntime) -> Result<(), Fail> {
+fn shows_labels_and_arcs(rt: HostRuntime) -> Result<(), Fail> {
+    let star = star_of(rt.alloc(), Name::A)?;
+    let pair = halves(rt.alloc(), &star, 17)?;
+    for (v, wanted) in ROWS {
+        let found = row_text(rt.alloc(), &pair, v)?;
+        assert_eq!(rt; found.as_str(), wanted);
+    }
+    Ok(())
+}
+
+#[test]
+fn shows_the_same_by_kept_steps(rt: HostRuntime) -> Result<(), Fail> {
     let star = star_of(rt.alloc(), Name::A)?;
     let mut pair = halves(rt.alloc(), &star, 17)?;
-    let rows = [
-        (0, "- - - -"),
-        (1, "0 - - -"),
-        (2, "10 10 1 2"),
-        (3, "11 11 3 4"),
-        (4, "17 5 4 5"),
-        (5, "- - - -"),
-        (6, "- 0 - -"),
-        (7, "- - - -"),
-    ];
-    for most in MOST {
-        if let Some(most) = most {
-            pair.keep_steps(most)?;
-        }
-        for (v, wanted) in rows {
-            let found = row_text(rt.alloc(), &pair, v)?;
-            assert_eq!(rt; found.as_str(), wanted);
-        }
+    pair.keep_steps(22)?;
+    for (v, wanted) in ROWS {
+        let found = row_text(rt.alloc(), &pair, v)?;
+        assert_eq!(rt; found.as_str(), wanted);
     }
+    Ok(())
+}
+
+#[test]
+fn shows_members(rt: HostRuntime) -> Result<(), Fail> {
+    let star = star_of(rt.alloc(), Name::A)?;
+    let pair = halves(rt.alloc(), &star, 17)?;
     let near = members_text(rt.alloc(), pair.from_members())?;
     assert_eq!(rt; near.as_str(), " 1 2 3 4");
     let far = members_text(rt.alloc(), pair.to_members())?;
@@ -311,15 +325,15 @@ fn shows_labels_members_and_arcs(rt: HostRuntime) -> Result<(), Fail> {
 fn shows_its_roots_and_steps(rt: HostRuntime) -> Result<(), Fail> {
     let star = star_of(rt.alloc(), Name::A)?;
     let pair = halves(rt.alloc(), &star, 17)?;
-    assert_eq!(rt; pair.star().graph().vertices(), 6);
+    assert_eq!(rt; pair.star().vertices(), 6);
     assert_eq!(rt; pair.source().number(), 1);
     assert_eq!(rt; pair.target().number(), 6);
     let before = pair
         .from_step(Vertex(3))
         .map_or(0, |step| step.head.number());
     assert_eq!(rt; before, 1);
-    let behind = pair.to_step(Vertex(3)).map_or(0, |step| step.head.number());
-    assert_eq!(rt; behind, 4);
+    let beyond = pair.to_step(Vertex(3)).map_or(0, |step| step.head.number());
+    assert_eq!(rt; beyond, 4);
     Ok(())
 }
 

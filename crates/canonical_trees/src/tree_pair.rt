@@ -4,7 +4,7 @@ ghost use Rattle.std.specs.Prelude.{◌≡◌, ◌<◌, ◌^◌, IfOk, IfSome, O
 ghost use Rattle.road_model.specs.Graph.{IsVertex};
 ghost use Rattle.road_model.specs.Canonical.{IsFirst};
 ghost use Rattle.label_setting.specs.Search.{IsTracked};
-ghost use Rattle.canonical_trees.specs.Tight.{Adds};
+ghost use Rattle.canonical_trees.specs.Tight.{AddsPath};
 ghost use Rattle.canonical_trees.specs.Trees.{IsInside, IsLabel, IsMembersFrom, IsMembersTo, IsSearched};
 ghost use Rattle.canonical_trees.specs.Trees.{IsFromStep, IsToStep, IsFromArc, IsToArc};
 
@@ -107,7 +107,7 @@ fn tree_from_in<'a>(
         (λ tree. tree ≡ record { graph = star.now; root = s; radius = radius }) }
     ensures tracked { IsTracked memory.new.labels.items memory.new.touched.items }
 {
-    let _limits = star.graph();
+    star.within_limits();
     let ball = ball_in(alloc, memory, star, s, searched(radius))?;
     let steps = emptied(alloc, steps)?;
     Ok(FromTree {
@@ -151,7 +151,7 @@ fn tree_to_in<'a>(
         (λ tree. tree ≡ record { graph = star.now; root = t; radius = radius }) }
     ensures tracked { IsTracked memory.new.labels.items memory.new.touched.items }
 {
-    let _limits = star.graph();
+    star.within_limits();
     let ball = ball_in(alloc, memory, &star.reversed(), t, searched(radius))?;
     let steps = emptied(alloc, steps)?;
     Ok(ToTree {
@@ -270,7 +270,7 @@ impl FromTree<'_> {
         ensures { self.new ≡ self.old }
     {
         let star = self.star;
-        let places = star.graph().vertices() as usize + 1;
+        let places = star.vertices() as usize + 1;
         self.steps.empty(places)?;
         keep_near(
             &star.reversed(),
@@ -327,7 +327,7 @@ impl ToTree<'_> {
 
     fn add_path(&self, v: Vertex, arcs: &mut Vec<ArcNo>) -> Result<(), NoMemory>
         requires { IsInside self.now.graph self.now.radius v self.now.root }
-        ensures { OnOk result (Adds self.now.graph self.now.root v arcs.old.items arcs.new.items) }
+        ensures { OnOk result (AddsPath self.now.graph self.now.root v arcs.old.items arcs.new.items) }
     {
         follow(
             self.star,
@@ -348,7 +348,7 @@ impl ToTree<'_> {
         ensures { self.new ≡ self.old }
     {
         let star = self.star;
-        let places = star.graph().vertices() as usize + 1;
+        let places = star.vertices() as usize + 1;
         self.steps.empty(places)?;
         keep_near(
             star,
@@ -545,7 +545,7 @@ impl<'a> TreePair<'a> {
         arcs: &mut Vec<ArcNo>,
     ) -> Result<(), NoMemory>
         requires { IsInside self.now.graph self.now.radius v self.now.target }
-        ensures { OnOk result (Adds self.now.graph self.now.target v arcs.old.items arcs.new.items) }
+        ensures { OnOk result (AddsPath self.now.graph self.now.target v arcs.old.items arcs.new.items) }
     {
         self.to.add_path(v, arcs)
     }

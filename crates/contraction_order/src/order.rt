@@ -21,6 +21,6 @@ pub fn order_of(alloc: Global, star: &Star) -> Result<Order, NoMemory>
     ensures { IfOk result (λ o. IsOrder star.now.vertices o.vertices) }
 {
     let wishes = by_difference(alloc, star)?;
-    let order = order_by(alloc, star.graph().vertices(), &wishes)?;
+    let order = order_by(alloc, star.vertices(), &wishes)?;
     Ok(order)
 }

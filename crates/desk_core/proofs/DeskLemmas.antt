@@ -1,11 +1,8 @@
 -- What a desk asks and replies.
-use Rattle.std.proofs.Common.{◌≡◌, ℕ, ◌+◌, ◌<◌, ◌≤◌, ◌^◌, ◌⊎◌, Bool, true, false, List, [], ◌∷◌, Option, Some, None, Result, Ok, Err, cond, refl, sym, ap, ◌∙◌, subst, arith, inl, inr}
-use Rattle.std.specs.Prelude.{not, ◌&&◌, ◌==◌, is_some, IsTrue, IfOk, IfSome}
+use Rattle.std.proofs.Common.{◌≡◌, ℕ, ◌≤◌, Bool, true, false, [], ◌∷◌, Option, None, Result, Ok, Err, refl, sym, ap, ◌∙◌, subst, arith, inr}
+use Rattle.std.specs.Prelude.{not, ◌&&◌, ◌==◌, is_some, IsTrue, IfOk}
 use Rattle.std.proofs.lemmas.Bool.Decides.{nat_tests}
-use Rattle.road_model.specs.declared.answer.PageSpan.{PageSpan}
 use Rattle.road_model.specs.declared.answer.Plan.{Plan}
-use Rattle.road_model.specs.declared.answer.Plan.TheVariants.{NoPath, Found}
-use Rattle.road_model.specs.declared.answer.Query.{Query}
 use Rattle.road_model.specs.declared.request.Cursor.{Cursor}
 use Rattle.road_model.specs.declared.request.CursorQuery.{CursorQuery}
 use Rattle.road_model.specs.declared.request.ErrorKind.{ErrorKind}
@@ -15,15 +12,13 @@ use Rattle.road_model.specs.declared.request.Reply.TheVariants as reply
 use Rattle.road_model.specs.declared.request.Request.{Request}
 use Rattle.road_model.specs.declared.request.Request.TheVariants as the
 use Rattle.road_model.specs.Graph.{Graph}
-use Rattle.road_model.specs.Answers.{IsAnswer}
 use Rattle.road_model.specs.Queries.{query_of}
-use Rattle.route_ranking.specs.Cursors.{IsSmall}
 use Rattle.desk_core.specs.declared.refusals.Limits.{Limits}
 use Rattle.desk_core.specs.declared.refusals.Asked.{Asked}
 use Rattle.desk_core.specs.declared.refusals.Asked.TheVariants as asked
 use Rattle.desk_core.specs.Refusals.{passed, outcome, is_newer, is_within, are_vertices, are_ratios, best_tests, route_tests, next_tests, why_tests, IsInRange}
-use Rattle.desk_core.specs.Replies.{may_refuse_memory, more_in, more_of, numbers_in, IsMemoryRefused, IsPageReply}
-use Rattle.desk_core.specs.Desks.{DeskState, desk_limits, first_plan, key_of, plan_at, put_first, HasSmallCursor, IsBrought, IsDeskAnswer, IsDeskAnswered, IsDeskQuestion, IsDeskRequest, IsDeskStep, IsMoved, IsPlanAt, NeedsMemory}
+use Rattle.desk_core.specs.Replies.{may_refuse_memory}
+use Rattle.desk_core.specs.Desks.{DeskState, desk_limits, key_of, plan_at, IsDeskAnswered, IsDeskQuestion, IsDeskRequest, IsDeskStep, NeedsMemory}
 use Rattle.desk_core.proofs.Passed.{passed_ok}
 
 -- ---- the tests that were passed

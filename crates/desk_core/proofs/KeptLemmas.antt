@@ -1,6 +1,6 @@
 -- The steps of a desk in a run of requests.
-use Rattle.std.proofs.Common.{◌≡◌, ℕ, zero, suc, ◌+◌, ◌-◌, ◌≤◌, ◌⊎◌, Bool, true, false, cond, List, [], ◌∷◌, ◌++◌, length, take, Option, Some, None, Result, Ok, Err, refl, sym, ap, ◌∙◌, subst, arith, inl, inr}
-use Rattle.std.specs.Prelude.{map, filter, not, ◌&&◌, ◌||◌, ◌==◌, is_some, option_map, slice_set, All}
+use Rattle.std.proofs.Common.{◌≡◌, ℕ, ◌+◌, ◌-◌, ◌≤◌, Bool, true, false, cond, List, [], ◌∷◌, ◌++◌, length, take, Option, Some, None, Result, Ok, Err, refl, sym, ap, ◌∙◌, subst, arith, inl, inr}
+use Rattle.std.specs.Prelude.{map, filter, not, ◌&&◌, ◌||◌, ◌==◌, is_some, option_map, All}
 use Rattle.std.specs.List.{find, list_any}
 use Rattle.std.specs.Cmp.{unsigned_Decides}
 use Rattle.std.proofs.lemmas.List.{take-map, take-append-le, length-append, length-set}
@@ -9,8 +9,6 @@ use Rattle.road_model.specs.declared.answer.Plan.{Plan}
 use Rattle.road_model.specs.declared.answer.Query.{Query}
 use Rattle.road_model.specs.declared.change.Change.{Change}
 use Rattle.road_model.specs.declared.rows.ArcRow.{ArcRow}
-use Rattle.road_model.specs.declared.request.Cursor.{Cursor}
-use Rattle.road_model.specs.declared.request.CursorQuery.{CursorQuery}
 use Rattle.road_model.specs.declared.request.ErrorKind.{ErrorKind}
 use Rattle.road_model.specs.declared.request.ErrorKind.TheVariants as error
 use Rattle.road_model.specs.declared.request.Reply.{Reply}
@@ -26,7 +24,7 @@ use Rattle.desk_core.specs.declared.refusals.Asked.TheVariants as asked
 use Rattle.desk_core.specs.Refusals.{is_within, outcome, best_tests, route_tests, next_tests, why_tests}
 use Rattle.desk_core.specs.States.{Key, State, newest, graph_at, is_kept, key_in, limits_in, published, same_key, staging, used}
 use Rattle.desk_core.specs.KeyLaws.{same_key_decides}
-use Rattle.desk_core.specs.Replies.{IsAnswered, IsAnswerTo, IsMemoryRefused, IsStep, numbers_in}
+use Rattle.desk_core.specs.Replies.{IsAnswered, IsMemoryRefused, IsStep}
 use Rattle.desk_core.specs.Desks.{Kept, DeskState, keys_of, plan_at, keeps, put_first, key_of, desk_limits, IsPlanAt, IsDeskPage, IsDeskAnswer, IsDeskAnswered, IsDeskStep}
 use Rattle.desk_core.specs.KeptAnswers.{with_desk, IsKeptAnswer, AreAnswers}
 use Rattle.desk_core.proofs.Passed.{passed_ok}

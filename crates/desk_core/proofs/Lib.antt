@@ -6,3 +6,4 @@ pub mod CacheLemmas
 pub mod DeskLemmas
 pub mod KeptLemmas
 pub mod Arcless
+pub mod ShownLemmas

@@ -23,10 +23,15 @@
 --   IsDeskStep number graph desk request reply shown next   the reply is the refusal of the request, and the desk stays;
 --                       else it is the answer, or that memory was refused and the desk stays; shown is the plan that a
 --                       page is of
-use Rattle.std.specs.Prelude.{◌≡◌, ◌≤◌, ◌<◌, ◌^◌, ℕ, ◌⊎◌, IfSome, not, Bool, false, List, [], ◌∷◌, map, take, filter, slice_get, is_some, option_map, Option, Some, None, Result, Ok, Err}
+--   ShowsSpan span shown   the plan that is shown has the items of the span
+use Rattle.std.specs.Prelude.{◌≡◌, ◌≤◌, ◌+◌, length, ◌<◌, ◌^◌, ℕ, ◌⊎◌, IfSome, not, Bool, false, List, [], ◌∷◌, map, take, filter, slice_get, is_some, option_map, Option, Some, None, Result, Ok, Err}
 use Rattle.std.specs.List.{find}
+use Rattle.road_model.specs.declared.answer.Optimum.{Optimum}
+use Rattle.road_model.specs.declared.answer.PageSpan.{PageSpan}
 use Rattle.road_model.specs.declared.answer.Plan.{Plan}
+use Rattle.road_model.specs.declared.answer.Plan.TheVariants.{Found}
 use Rattle.road_model.specs.declared.answer.Query.{Query}
+use Rattle.road_model.specs.declared.answer.Route.{Route}
 use Rattle.road_model.specs.declared.request.ErrorKind.{ErrorKind}
 use Rattle.road_model.specs.declared.request.Reply.{Reply}
 use Rattle.road_model.specs.declared.request.Reply.TheVariants as reply
@@ -152,3 +157,9 @@ IsDeskAnswered number graph desk request (Ok asked) r shown next =
 abbrev pub IsDeskStep : ℕ → Graph → DeskState → Request → Reply → Option Plan → DeskState → Type 0
 IsDeskStep number graph desk request r shown next =
     IsDeskAnswered number graph desk request (outcome (desk_limits number graph desk request) request) r shown next
+
+pub record ShowsSpan (span : PageSpan) (shown : Option Plan) : Type 0 where
+  pub optimum : Optimum
+  pub others : List Route
+  pub is_shown : shown ≡ Some (Found optimum others)
+  pub inside : span.first + span.count ≤ 1 + length others

@@ -7,15 +7,17 @@ ghost use Rattle.road_model.specs.declared.answer.Plan.{Plan};
 ghost use Rattle.road_model.specs.declared.answer.Query.{Query};
 ghost use Rattle.road_model.specs.declared.answer.Route.{Route};
 ghost use Rattle.road_model.specs.declared.change.Change.{Change};
+ghost use Rattle.road_model.specs.declared.request.Cursor.{Cursor};
 ghost use Rattle.road_model.specs.declared.request.CursorQuery.{CursorQuery};
 ghost use Rattle.road_model.specs.declared.request.Reply.{Reply};
+ghost use Rattle.road_model.specs.declared.request.Reply.TheVariants as reply;
 ghost use Rattle.road_model.specs.declared.request.Request.{Request};
 ghost use Rattle.road_model.specs.declared.request.Request.TheVariants as the;
 ghost use Rattle.road_model.specs.Graph.{Graph};
 ghost use Rattle.desk_core.specs.States.{State, newest, graph_at, published, staging};
 ghost use Rattle.desk_core.specs.Replies.{IsStep};
 ghost use Rattle.desk_core.specs.Runs.{Turn, IsRun, Follow, PagesJoin, HasReplyChain};
-ghost use Rattle.desk_core.specs.Desks.{DeskState, IsDeskStep};
+ghost use Rattle.desk_core.specs.Desks.{DeskState, IsDeskStep, ShowsSpan};
 ghost use Rattle.desk_core.specs.KeptAnswers.{AreAnswers, with_desk};
 
 /// A version keeps its graph, whatever is published after it.
@@ -41,13 +43,13 @@ pub fn a_chain_ends()
 /// The steps of one desk are steps of a run: where its plans are answers of the versions that they are kept under, and
 /// the newest version is pinned.
 pub fn a_desk_step_is_a_step()
-    ensures step { (g : Graph) (state : State) (desk next : DeskState) (request : Request) (reply : Reply)
+    ensures step { (g : Graph) (state : State) (desk next : DeskState) (request : Request) (r : Reply)
         (shown : Option Plan) → AreAnswers g state desk →
-        IsDeskStep (newest state) (graph_at g state (newest state)) desk request reply shown next →
-        IsStep g (with_desk state desk) request reply shown (with_desk state next) }
-    ensures kept { (g : Graph) (state : State) (desk next : DeskState) (request : Request) (reply : Reply)
+        IsDeskStep (newest state) (graph_at g state (newest state)) desk request r shown next →
+        IsStep g (with_desk state desk) request r shown (with_desk state next) }
+    ensures kept { (g : Graph) (state : State) (desk next : DeskState) (request : Request) (r : Reply)
         (shown : Option Plan) → AreAnswers g state desk →
-        IsDeskStep (newest state) (graph_at g state (newest state)) desk request reply shown next →
+        IsDeskStep (newest state) (graph_at g state (newest state)) desk request r shown next →
         AreAnswers g state next }
 {}
 
@@ -57,4 +59,11 @@ pub fn kept_answers_stay_answers()
         AreAnswers g state desk → AreAnswers g (staging state change) desk }
     ensures published { (g : Graph) (state : State) (desk : DeskState) →
         AreAnswers g state desk → AreAnswers g (published state) desk }
+{}
+
+/// Where a desk replies with a page, the plan that it shows has the items of the page.
+pub fn a_page_shows_its_plan()
+    ensures { (number m : ℕ) (g : Graph) (desk next : DeskState) (request : Request) (r : Reply)
+        (shown : Option Plan) (span : PageSpan) (more : Option Cursor) →
+        IsDeskStep number g desk request r shown next → r ≡ reply.Page m span more → ShowsSpan span shown }
 {}

@@ -13,8 +13,8 @@ mod tests;
 
 pub use desk::Desk;
 pub use laws::{
-    a_chain_ends, a_desk_step_is_a_step, a_version_keeps_its_graph, kept_answers_stay_answers,
-    pages_of_a_run_join,
+    a_chain_ends, a_desk_step_is_a_step, a_page_shows_its_plan, a_version_keeps_its_graph,
+    kept_answers_stay_answers, pages_of_a_run_join,
 };
 pub use pages::page_reply;
 pub use refusals::{Asked, Limits, tested};

@@ -165,17 +165,17 @@ fn the_cursor_of_a_page_points_at_the_next(rt: HostRuntime) -> Result<(), Fail> 
     let plan = small_plan(rt.alloc())?;
     let usual = Query::usual(Vertex(1), Vertex(6));
     let rows = [(0, 0, 2, Some(2)), (2, 2, 1, None), (9, 3, 0, None)];
-    for (offset, first, count, behind) in rows {
+    for (offset, first, count, beyond) in rows {
         match page_reply(3, &usual, 2, offset, &plan) {
             Reply::Page { number, span, more } => {
                 let wanted = PageSpan {
                     first,
                     count,
-                    more: behind.is_some(),
+                    more: beyond.is_some(),
                 };
                 assert_eq!(rt; number, 3);
                 assert_eq!(rt; span, wanted);
-                assert_eq!(rt; more, behind.map(|offset| cursor(offset)));
+                assert_eq!(rt; more, beyond.map(|offset| cursor(offset)));
             }
             _ => return Err("a page".into()),
         }

@@ -68,7 +68,7 @@ IsNumberField-from line at to n some within few digits stops =
       within = within;
       field = fields_of-found line at to some within (digits_pass (between at to line) digits.digits) stops;
       number = number_of-digits (between at to line) (omega arith) (omega arith) digits.digits ∙ ap (λ (m : ℕ). Some m) (sym digits.value);
-      behind = stops;
+      beyond = stops;
     }
 
 -- the three numbers, each after a blank
@@ -80,8 +80,8 @@ AreArcFields-from line tail head len a b c two first second t at' h bt l past =
     let pass : Passes (between 0 1 line) = subst (λ (w : List ℕ). Passes w) (sym word) (refl, tt) in
     let cut0 = fields_of-found line 0 1 (omega arith) (omega arith) pass (λ _. blank) in
     let step0 = fields_of-passed line 1 (omega arith) blank in
-    let step1 = fields_of-passed line a at' (t.behind at') in
-    let step2 = fields_of-passed line b bt (h.behind bt) in
+    let step1 = fields_of-passed line a at' (t.beyond at') in
+    let step2 = fields_of-passed line b bt (h.beyond bt) in
     let last = fields_of-past line c past in
     record {
       first = between 2 a line;

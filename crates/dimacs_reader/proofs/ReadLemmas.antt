@@ -8,8 +8,8 @@ use Rattle.road_text.specs.Lines.{lines_of, whole_lines}
 use Rattle.road_text.specs.declared.line_reader.LineReader.{LineReader}
 use Rattle.road_text.specs.declared.line_reader.Advance.TheVariants.{Whole, Last, Long, End, Spent, Failed}
 use Rattle.road_text.specs.Reader.{held, line_of, budget, limit_of, IsLongLine, Steps}
-use Rattle.road_text.specs.Behind.{IsBehind, IsRead, IsBroken, IsOver}
-use Rattle.road_text.proofs.BehindLemmas.{behind_whole, behind_long, read_last, read_long, read_end, over_spent, broken_failed}
+use Rattle.road_text.specs.Behind.{IsBeyond, IsRead, IsBroken, IsOver}
+use Rattle.road_text.proofs.BeyondLemmas.{beyond_whole, beyond_long, read_last, read_long, read_end, over_spent, broken_failed}
 use Rattle.dimacs_reader.specs.declared.fault.GraphKind.{GraphKind}
 use Rattle.dimacs_reader.specs.declared.fault.GraphKind.TheVariants.{FileLong}
 use Rattle.dimacs_reader.specs.declared.fault.GraphFault.{GraphFault}
@@ -18,7 +18,7 @@ use Rattle.dimacs_reader.specs.declared.fault.GraphError.TheVariants.{Refused, R
 use Rattle.dimacs_reader.specs.declared.line.TheConstants.{MAX_LINE, MAX_FILE}
 use Rattle.dimacs_reader.specs.declared.builder.Builder.{Builder}
 use Rattle.dimacs_reader.specs.Gr.{problem_in, arcs_in, vertices_of, fault_of, fault_at, first_fault, end_fault, graph_of, long_text, gr_text}
-use Rattle.dimacs_reader.specs.Building.{Adds, Ends}
+use Rattle.dimacs_reader.specs.Building.{AddsLine, Ends}
 use Rattle.dimacs_reader.specs.Gathering.{Gathers, GathersAll}
 use Rattle.dimacs_reader.specs.Reads.{ReadsGraph, IsCutShort}
 use Rattle.dimacs_reader.proofs.GrLemmas.{first_fault-push, first_fault-found}
@@ -51,18 +51,18 @@ pub graph_of-graph : (lines : List (List ℕ)) (graph : Graph) → first_fault [
 unfolding graph_of
 graph_of-graph lines graph e f v a = rw (e, f, ← v, ← a) refl
 
-take-front : (a b : List ℕ) (n : ℕ) → length a ≤ n → take n (a ++ b) ≡ a ++ take (n - length a) b
-take-front a b n le = ap (λ (k : ℕ). take k (a ++ b)) (omega arith) ∙ take-append-add a b (n - length a)
+take-prefix : (a b : List ℕ) (n : ℕ) → length a ≤ n → take n (a ++ b) ≡ a ++ take (n - length a) b
+take-prefix a b n le = ap (λ (k : ℕ). take k (a ++ b)) (omega arith) ∙ take-append-add a b (n - length a)
 
 -- a fault of a line that has its line feed, whatever follows it
-pub reads_fault : (spare : ℕ) (text rest : List ℕ) (before : List (List ℕ)) (line : List ℕ) (kind : GraphKind) → IsBehind MAX_FILE spare text rest (before ++ line ∷ []) → first_fault [] before ≡ None → fault_of before line ≡ Some kind → gr_text text ≡ Err (fault_at before kind)
+pub reads_fault : (spare : ℕ) (text rest : List ℕ) (before : List (List ℕ)) (line : List ℕ) (kind : GraphKind) → IsBeyond MAX_FILE spare text rest (before ++ line ∷ []) → first_fault [] before ≡ None → fault_of before line ≡ Some kind → gr_text text ≡ Err (fault_at before kind)
 reads_fault spare text rest before line kind at' clean found =
     let upto : List ℕ = at'.given in
     ⊎_elim
     (λ (long : MAX_FILE < length text).
     let few : length upto ≤ MAX_FILE = (let e = at'.count in omega arith) in
     let cut : take MAX_FILE text ≡ upto ++ take (MAX_FILE - length upto) rest =
-    ap (take MAX_FILE) at'.is ∙ take-front upto rest MAX_FILE few in
+    ap (take MAX_FILE) at'.is ∙ take-prefix upto rest MAX_FILE few in
     gr_text-long text long
     ∙ long_text-fault (whole_lines (take MAX_FILE text)) (fault_at before kind)
     (ap (λ (t : List ℕ). first_fault [] (whole_lines t)) cut ∙ ap (first_fault []) (at'.whole (take (MAX_FILE - length upto) rest))
@@ -105,59 +105,59 @@ reads_broken text rest before broken clean = record {
 
 -- ---- what one step of the reader makes of the gathering
 
-Adds-fault : (before : List (List ℕ)) (line : List ℕ) (new : Builder) (text rest : List ℕ) (error : GraphError) → ((kind : GraphKind) → fault_of before line ≡ Some kind → gr_text text ≡ Err (fault_at before kind)) → Adds before line new (Err error) → ReadsGraph text rest (Err error)
-Adds-fault before line new text rest (Refused fault) f adds = f adds.0 adds.1 ∙ ap (λ (x : GraphFault). Err x) (sym adds.2)
-Adds-fault before line new text rest ReadFault f adds = absurd adds
-Adds-fault before line new text rest NoMemory f adds = tt
+AddsLine-fault : (before : List (List ℕ)) (line : List ℕ) (new : Builder) (text rest : List ℕ) (error : GraphError) → ((kind : GraphKind) → fault_of before line ≡ Some kind → gr_text text ≡ Err (fault_at before kind)) → AddsLine before line new (Err error) → ReadsGraph text rest (Err error)
+AddsLine-fault before line new text rest (Refused fault) f adds = f adds.0 adds.1 ∙ ap (λ (x : GraphFault). Err x) (sym adds.2)
+AddsLine-fault before line new text rest ReadFault f adds = absurd adds
+AddsLine-fault before line new text rest NoMemory f adds = tt
 
-pub gathers_whole : (old reader : LineReader) (text rest after : List ℕ) (builder new : Builder) (done : Unit {0}) (g : Gathers (budget old) text (held old ++ rest) builder) → Steps old reader (held old ++ rest) after Whole → Adds g.before (line_of reader) new (Ok done) → Gathers (budget reader) text (held reader ++ after) new
+pub gathers_whole : (old reader : LineReader) (text rest after : List ℕ) (builder new : Builder) (done : Unit {0}) (g : Gathers (budget old) text (held old ++ rest) builder) → Steps old reader (held old ++ rest) after Whole → AddsLine g.before (line_of reader) new (Ok done) → Gathers (budget reader) text (held reader ++ after) new
 gathers_whole old reader text rest after builder new done g step adds = record {
   before = g.before ++ line_of reader ∷ [];
-  behind = behind_whole MAX_FILE old reader text rest after g.before g.behind step;
+  beyond = beyond_whole MAX_FILE old reader text rest after g.before g.beyond step;
   after = adds.1;
   clean = first_fault-push g.before (line_of reader) g.clean adds.0;
 }
 
-pub faults_whole : (old reader : LineReader) (text rest after : List ℕ) (builder new : Builder) (error : GraphError) (g : Gathers (budget old) text (held old ++ rest) builder) → Steps old reader (held old ++ rest) after Whole → Adds g.before (line_of reader) new (Err error) → ReadsGraph text after (Err error)
+pub faults_whole : (old reader : LineReader) (text rest after : List ℕ) (builder new : Builder) (error : GraphError) (g : Gathers (budget old) text (held old ++ rest) builder) → Steps old reader (held old ++ rest) after Whole → AddsLine g.before (line_of reader) new (Err error) → ReadsGraph text after (Err error)
 faults_whole old reader text rest after builder new error g step adds =
-    Adds-fault g.before (line_of reader) new text after error (λ kind found. reads_fault (budget reader) text (held reader ++ after) g.before (line_of reader) kind (behind_whole MAX_FILE old reader text rest after g.before g.behind step) g.clean found) adds
+    AddsLine-fault g.before (line_of reader) new text after error (λ kind found. reads_fault (budget reader) text (held reader ++ after) g.before (line_of reader) kind (beyond_whole MAX_FILE old reader text rest after g.before g.beyond step) g.clean found) adds
 
-pub gathers_last : (old reader : LineReader) (text rest after : List ℕ) (builder new : Builder) (done : Unit {0}) (g : Gathers (budget old) text (held old ++ rest) builder) → Steps old reader (held old ++ rest) after Last → Adds g.before (line_of reader) new (Ok done) → GathersAll text new
+pub gathers_last : (old reader : LineReader) (text rest after : List ℕ) (builder new : Builder) (done : Unit {0}) (g : Gathers (budget old) text (held old ++ rest) builder) → Steps old reader (held old ++ rest) after Last → AddsLine g.before (line_of reader) new (Ok done) → GathersAll text new
 gathers_last old reader text rest after builder new done g step adds = record {
   all = g.before ++ line_of reader ∷ [];
-  read = read_last MAX_FILE old reader text rest after g.before g.behind step;
+  read = read_last MAX_FILE old reader text rest after g.before g.beyond step;
   after = adds.1;
   clean = first_fault-push g.before (line_of reader) g.clean adds.0;
 }
 
-pub faults_last : (old reader : LineReader) (text rest after : List ℕ) (builder new : Builder) (error : GraphError) (g : Gathers (budget old) text (held old ++ rest) builder) → Steps old reader (held old ++ rest) after Last → Adds g.before (line_of reader) new (Err error) → ReadsGraph text after (Err error)
+pub faults_last : (old reader : LineReader) (text rest after : List ℕ) (builder new : Builder) (error : GraphError) (g : Gathers (budget old) text (held old ++ rest) builder) → Steps old reader (held old ++ rest) after Last → AddsLine g.before (line_of reader) new (Err error) → ReadsGraph text after (Err error)
 faults_last old reader text rest after builder new error g step adds =
-    Adds-fault g.before (line_of reader) new text after error (λ kind found. reads_last_fault text g.before (line_of reader) kind (read_last MAX_FILE old reader text rest after g.before g.behind step) g.clean found) adds
+    AddsLine-fault g.before (line_of reader) new text after error (λ kind found. reads_last_fault text g.before (line_of reader) kind (read_last MAX_FILE old reader text rest after g.before g.beyond step) g.clean found) adds
 
 -- what a line that wasn't shown adds
 abbrev pub AddsLong : (before : List (List ℕ)) → Option ℕ → Builder → Result Unit GraphError → Type 0
-AddsLong before first new answer = (line : List ℕ) → IsLongLine MAX_LINE line first → Adds before line new answer
+AddsLong before first new answer = (line : List ℕ) → IsLongLine MAX_LINE line first → AddsLine before line new answer
 
 pub gathers_long : (old reader : LineReader) (text rest after : List ℕ) (builder new : Builder) (first : Option ℕ) (done : Unit {0}) → limit_of old ≡ MAX_LINE → (g : Gathers (budget old) text (held old ++ rest) builder) → Steps old reader (held old ++ rest) after (Long true first) → AddsLong g.before first new (Ok done) → Gathers (budget reader) text (held reader ++ after) new
 gathers_long old reader text rest after builder new first done limit g step adds =
-    let found = behind_long MAX_FILE old reader text rest after g.before first g.behind step in
+    let found = beyond_long MAX_FILE old reader text rest after g.before first g.beyond step in
     let added = adds found.0 (subst (λ (n : ℕ). IsLongLine n found.0 first) limit found.1) in
     record {
       before = g.before ++ found.0 ∷ [];
-      behind = found.2;
+      beyond = found.2;
       after = added.1;
       clean = first_fault-push g.before found.0 g.clean added.0;
     }
 
 pub faults_long : (old reader : LineReader) (text rest after : List ℕ) (builder new : Builder) (first : Option ℕ) (error : GraphError) → limit_of old ≡ MAX_LINE → (g : Gathers (budget old) text (held old ++ rest) builder) → Steps old reader (held old ++ rest) after (Long true first) → AddsLong g.before first new (Err error) → ReadsGraph text after (Err error)
 faults_long old reader text rest after builder new first error limit g step adds =
-    let found = behind_long MAX_FILE old reader text rest after g.before first g.behind step in
+    let found = beyond_long MAX_FILE old reader text rest after g.before first g.beyond step in
     let added = adds found.0 (subst (λ (n : ℕ). IsLongLine n found.0 first) limit found.1) in
-    Adds-fault g.before found.0 new text after error (λ kind h. reads_fault (budget reader) text (held reader ++ after) g.before found.0 kind found.2 g.clean h) added
+    AddsLine-fault g.before found.0 new text after error (λ kind h. reads_fault (budget reader) text (held reader ++ after) g.before found.0 kind found.2 g.clean h) added
 
 pub gathers_long_last : (old reader : LineReader) (text rest after : List ℕ) (builder new : Builder) (first : Option ℕ) (done : Unit {0}) → limit_of old ≡ MAX_LINE → (g : Gathers (budget old) text (held old ++ rest) builder) → Steps old reader (held old ++ rest) after (Long false first) → AddsLong g.before first new (Ok done) → GathersAll text new
 gathers_long_last old reader text rest after builder new first done limit g step adds =
-    let found = read_long MAX_FILE old reader text rest after g.before first g.behind step in
+    let found = read_long MAX_FILE old reader text rest after g.before first g.beyond step in
     let added = adds found.0 (subst (λ (n : ℕ). IsLongLine n found.0 first) limit found.1) in
     record {
       all = g.before ++ found.0 ∷ [];
@@ -168,20 +168,20 @@ gathers_long_last old reader text rest after builder new first done limit g step
 
 pub faults_long_last : (old reader : LineReader) (text rest after : List ℕ) (builder new : Builder) (first : Option ℕ) (error : GraphError) → limit_of old ≡ MAX_LINE → (g : Gathers (budget old) text (held old ++ rest) builder) → Steps old reader (held old ++ rest) after (Long false first) → AddsLong g.before first new (Err error) → ReadsGraph text after (Err error)
 faults_long_last old reader text rest after builder new first error limit g step adds =
-    let found = read_long MAX_FILE old reader text rest after g.before first g.behind step in
+    let found = read_long MAX_FILE old reader text rest after g.before first g.beyond step in
     let added = adds found.0 (subst (λ (n : ℕ). IsLongLine n found.0 first) limit found.1) in
-    Adds-fault g.before found.0 new text after error (λ kind h. reads_last_fault text g.before found.0 kind found.2 g.clean h) added
+    AddsLine-fault g.before found.0 new text after error (λ kind h. reads_last_fault text g.before found.0 kind found.2 g.clean h) added
 
 pub gathers_end : (old reader : LineReader) (text rest after : List ℕ) (builder : Builder) (g : Gathers (budget old) text (held old ++ rest) builder) → Steps old reader (held old ++ rest) after End → GathersAll text builder
 gathers_end old reader text rest after builder g step = record {
   all = g.before;
-  read = read_end MAX_FILE old reader text rest after g.before g.behind step;
+  read = read_end MAX_FILE old reader text rest after g.before g.beyond step;
   after = g.after;
   clean = g.clean;
 }
 
 pub faults_over : (old reader : LineReader) (text rest after : List ℕ) (builder : Builder) (g : Gathers (budget old) text (held old ++ rest) builder) → Steps old reader (held old ++ rest) after Spent → gr_text text ≡ Err (fault_at g.before FileLong)
-faults_over old reader text rest after builder g step = reads_over text g.before (over_spent MAX_FILE old reader text rest after g.before g.behind step) g.clean
+faults_over old reader text rest after builder g step = reads_over text g.before (over_spent MAX_FILE old reader text rest after g.before g.beyond step) g.clean
 
 pub cut_short : (old reader : LineReader) (text rest after : List ℕ) (builder : Builder) (g : Gathers (budget old) text (held old ++ rest) builder) → Steps old reader (held old ++ rest) after Failed → IsCutShort text after
-cut_short old reader text rest after builder g step = reads_broken text after g.before (broken_failed MAX_FILE old reader text rest after g.before g.behind step) g.clean
+cut_short old reader text rest after builder g step = reads_broken text after g.before (broken_failed MAX_FILE old reader text rest after g.before g.beyond step) g.clean

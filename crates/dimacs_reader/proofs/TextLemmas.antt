@@ -66,13 +66,13 @@ digits_unreturned (d ∷ ds) zero h lt = (digit_facts d (and_parts (is_ascii_dig
 digits_unreturned (d ∷ ds) (suc i) h lt = digits_unreturned ds i (and_parts (is_ascii_digit d) (all_ascii_digits ds) h).1 (omega arith)
 
 -- a line that ends in a number keeps its last byte
-ends_in_number : (front : List ℕ) (n : ℕ) → n < 2 ^ 64 → without_return (front ++ decimal n) ≡ front ++ decimal n
-ends_in_number front n fits =
+ends_in_number : (prefix : List ℕ) (n : ℕ) → n < 2 ^ 64 → without_return (prefix ++ decimal n) ≡ prefix ++ decimal n
+ends_in_number prefix n fits =
     let some : 0 < length (decimal n) = decimal_nonempty n fits in
-    let len = length-append front (decimal n) in
-    let last : get_or (front ++ decimal n) (length (front ++ decimal n) - 1) 0 ≡ get_or (decimal n) (length (front ++ decimal n) - 1 - length front) 0 =
-    get_or-append_right front (decimal n) (length front) (length (front ++ decimal n) - 1) 0 refl (omega arith) in
-    without_return-plain (front ++ decimal n) (λ e. digits_unreturned (decimal n) (length (front ++ decimal n) - 1 - length front) (digits_decimal by_digits n fits) (omega arith) (sym last ∙ e))
+    let len = length-append prefix (decimal n) in
+    let last : get_or (prefix ++ decimal n) (length (prefix ++ decimal n) - 1) 0 ≡ get_or (decimal n) (length (prefix ++ decimal n) - 1 - length prefix) 0 =
+    get_or-append_right prefix (decimal n) (length prefix) (length (prefix ++ decimal n) - 1) 0 refl (omega arith) in
+    without_return-plain (prefix ++ decimal n) (λ e. digits_unreturned (decimal n) (length (prefix ++ decimal n) - 1 - length prefix) (digits_decimal by_digits n fits) (omega arith) (sym last ∙ e))
 
 feedless : (n : ℕ) → n < 2 ^ 64 → HasNoFeed (decimal n)
 feedless n fits = digits_feedless (decimal n) (digits_decimal by_digits n fits)
@@ -242,15 +242,15 @@ problem_text-is vertices arcs rest = simp append_assoc
 
 row_kept : (row : ArcRow) → IsSmall row → without_return (row_line row) ≡ row_line row
 row_kept row small =
-    let front : List ℕ = codes "a " ++ (decimal row.tail ++ 32 ∷ (decimal row.head ++ 32 ∷ [])) in
-    let is : row_line row ≡ front ++ decimal row.length = simp append_assoc in
-    ap without_return is ∙ ends_in_number front row.length (let l = small.len in omega arith) ∙ sym is
+    let prefix : List ℕ = codes "a " ++ (decimal row.tail ++ 32 ∷ (decimal row.head ++ 32 ∷ [])) in
+    let is : row_line row ≡ prefix ++ decimal row.length = simp append_assoc in
+    ap without_return is ∙ ends_in_number prefix row.length (let l = small.len in omega arith) ∙ sym is
 
 problem_kept : (vertices arcs : ℕ) → arcs < 2 ^ 32 → without_return (problem_line vertices arcs) ≡ problem_line vertices arcs
 problem_kept vertices arcs a =
-    let front : List ℕ = codes "p sp " ++ (decimal vertices ++ 32 ∷ []) in
-    let is : problem_line vertices arcs ≡ front ++ decimal arcs = simp append_assoc in
-    ap without_return is ∙ ends_in_number front arcs (omega arith) ∙ sym is
+    let prefix : List ℕ = codes "p sp " ++ (decimal vertices ++ 32 ∷ []) in
+    let is : problem_line vertices arcs ≡ prefix ++ decimal arcs = simp append_assoc in
+    ap without_return is ∙ ends_in_number prefix arcs (omega arith) ∙ sym is
 
 rows_lines : (rows : List ArcRow) → AllByRecursion IsSmall rows → lines_of (flat_map row_text rows) ≡ map row_line rows
 rows_lines [] small = lines_of-nil

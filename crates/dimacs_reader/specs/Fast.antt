@@ -11,7 +11,7 @@ pub record IsNumberField (line : List ℕ) (at n to : ℕ) : Type 0 where
   pub within : to ≤ length line
   pub field : fields_of (drop at line) ≡ slice_range line at to ∷ fields_of (drop to line)
   pub number : number_of (slice_range line at to) ≡ Some n
-  pub behind : to < length line → is_blank (slice_index line to) ≡ true
+  pub beyond : to < length line → is_blank (slice_index line to) ≡ true
 
 pub record AreArcFields (line : List ℕ) (tail head len : ℕ) : Type 0 where
   pub first : List ℕ

@@ -5,7 +5,7 @@
 use Rattle.std.specs.Prelude.{◌≡◌, ℕ, List, [], ◌++◌, None, Result, Ok, Err}
 use Rattle.road_text.specs.declared.line_reader.LineReader.{LineReader}
 use Rattle.road_text.specs.Reader.{held, budget}
-use Rattle.road_text.specs.Behind.{IsBehind, IsRead}
+use Rattle.road_text.specs.Behind.{IsBeyond, IsRead}
 use Rattle.dimacs_reader.specs.declared.fault.GraphError.{GraphError}
 use Rattle.dimacs_reader.specs.declared.builder.Builder.{Builder}
 use Rattle.dimacs_reader.specs.declared.builder.Gathered.{Gathered}
@@ -17,7 +17,7 @@ use Rattle.dimacs_reader.specs.Reads.{ReadsGraph}
 
 pub record Gathers (spare : ℕ) (text rest : List ℕ) (builder : Builder) : Type 0 where
   pub before : List (List ℕ)
-  pub behind : IsBehind MAX_FILE spare text rest before
+  pub beyond : IsBeyond MAX_FILE spare text rest before
   pub after : IsAfter before builder
   pub clean : first_fault [] before ≡ None
 

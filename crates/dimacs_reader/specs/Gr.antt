@@ -10,7 +10,7 @@
 --   arc_of line             the arc of a line `a U V W`
 --   problem_in lines        what the first problem line among these says
 --   arcs_in lines           the arcs of these lines, in their order
---   vertices_of problem, arcs_of problem   the numbers of a problem line, and 0 where there is none
+--   vertices_of problem, arcs_promised problem   the numbers of a problem line, and 0 where there is none
 --   first_failing checks    the fault of the first check that fails; each says whether it does, and with which fault
 --   is_above n most         there is a number, and it is above this one
 --   is_zero n               there is a number, and it is 0
@@ -95,9 +95,9 @@ abbrev pub vertices_of : Option Problem → ℕ
 vertices_of None = 0
 vertices_of (Some problem) = problem.vertices
 
-abbrev pub arcs_of : Option Problem → ℕ
-arcs_of None = 0
-arcs_of (Some problem) = problem.arcs
+abbrev pub arcs_promised : Option Problem → ℕ
+arcs_promised None = 0
+arcs_promised (Some problem) = problem.arcs
 
 -- ---- what is wrong with it
 
@@ -130,7 +130,7 @@ problem_fault problem fields = first_failing (
 abbrev pub arc_fault : Option Problem → ℕ → List (List ℕ) → Option GraphKind
 arc_fault problem count fields = first_failing (
     (is_none problem, NoProblem)
-    ∷ (nat_le (arcs_of problem) count, TooManyArcs)
+    ∷ (nat_le (arcs_promised problem) count, TooManyArcs)
     ∷ (not (length fields == 4), BadLine)
     ∷ (is_none (number_at fields 1) || (is_none (number_at fields 2) || is_none (number_at fields 3)), BadNumber)
     ∷ (is_outside (number_at fields 1) (vertices_of problem) || is_outside (number_at fields 2) (vertices_of problem), VertexRange)
@@ -170,7 +170,7 @@ first_fault before (line ∷ lines) = or_later before (fault_of before line) (fi
 unfoldable pub end_fault : List (List ℕ) → Option GraphKind
 end_fault lines = first_failing (
     (is_none (problem_in lines), NoProblem)
-    ∷ (nat_lt (length (arcs_in lines)) (arcs_of (problem_in lines)), TooFewArcs)
+    ∷ (nat_lt (length (arcs_in lines)) (arcs_promised (problem_in lines)), TooFewArcs)
     ∷ [])
 
 abbrev pub graph_or : Option GraphFault → Graph → Result Graph GraphFault

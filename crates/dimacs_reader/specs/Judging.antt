@@ -14,7 +14,7 @@ use Rattle.dimacs_reader.specs.declared.fault.GraphKind.TheVariants.{VertexRange
 use Rattle.dimacs_reader.specs.declared.line.Problem.{Problem}
 use Rattle.dimacs_reader.specs.declared.line.Judged.{Judged}
 use Rattle.dimacs_reader.specs.declared.line.Judged.TheVariants.{Wrong, Nothing, NewProblem, NewArc}
-use Rattle.dimacs_reader.specs.Gr.{problem_from, arc_from, problem_of, arc_of, fields_fault, line_fault, vertices_of, arcs_of, first_failing, is_outside, is_zero, is_above}
+use Rattle.dimacs_reader.specs.Gr.{problem_from, arc_from, problem_of, arc_of, fields_fault, line_fault, vertices_of, arcs_promised, first_failing, is_outside, is_zero, is_above}
 
 pub record IsProblem (problem : Problem) : Type 0 where
   pub few_vertices : problem.vertices ≤ MAX_VERTICES
@@ -24,7 +24,7 @@ pub record IsProblem (problem : Problem) : Type 0 where
 pub record FitsProblem (problem : Option Problem) (count : ℕ) (row : ArcRow) : Type 0 where
   pub arc : IsArc (vertices_of problem) row
   pub short : row.length ≤ MAX_LENGTH
-  pub room : count < arcs_of problem
+  pub room : count < arcs_promised problem
 
 -- an arc by its three numbers
 abbrev pub row_fault : ℕ → ℕ → ℕ → ℕ → Option GraphKind

@@ -6,3 +6,4 @@ pub mod Gathering
 pub mod Fast
 pub mod Text
 pub mod Pending
+pub mod Messages

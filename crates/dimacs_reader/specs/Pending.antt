@@ -1,6 +1,6 @@
 -- Text on its way to a sink.
 --   pending p   the bytes that were gathered and not written
---   Sends       Done: a prefix of what was gathered was written, and the rest is still gathered; Failed: a write of it
+--   SendsPiece       Done: a prefix of what was gathered was written, and the rest is still gathered; Failed: a write of it
 --               failed
 use Rattle.std.specs.Prelude.{◌≡◌, ℕ, List, ◌++◌, Option, take}
 use Rattle.road_io.specs.Told.{Told}
@@ -12,6 +12,6 @@ use Rattle.dimacs_reader.specs.declared.write.Pending.{Pending}
 abbrev pub pending : Pending → List ℕ
 pending p = take p.used p.room
 
-abbrev pub Sends : List ℕ → List ℕ → Option Told → Option Told → Put → Type 0
-Sends before after old new Done = (sent : List ℕ) × (before ≡ sent ++ after) × Writes sent old new Done
-Sends before after old new Failed = Writes before old new Failed
+abbrev pub SendsPiece : List ℕ → List ℕ → Option Told → Option Told → Put → Type 0
+SendsPiece before after old new Done = (sent : List ℕ) × (before ≡ sent ++ after) × Writes sent old new Done
+SendsPiece before after old new Failed = Writes before old new Failed

@@ -6,7 +6,7 @@ ghost use Rattle.road_text.specs.declared.line_reader.LineReader.{LineReader};
 ghost use Rattle.dimacs_reader.specs.Gathering.{Gathers, GathersOn};
 ghost use Rattle.dimacs_reader.specs.declared.line.TheConstants.{MAX_LINE};
 ghost use Rattle.dimacs_reader.specs.Gr.{is_comment};
-ghost use Rattle.dimacs_reader.specs.Building.{IsSound, IsAfter, Adds, Ends};
+ghost use Rattle.dimacs_reader.specs.Building.{IsSound, IsAfter, AddsLine, Ends};
 
 use crate::fault::{GraphError, GraphFault, GraphKind};
 use crate::judge::{begins_comment, judge};
@@ -62,7 +62,7 @@ impl Builder {
         ensures sound { IsSound self.new }
         ensures lines { self.new.lines ≤ self.old.lines + 1 }
         ensures adds { (before : List (List ℕ)) → IsAfter before self.old
-            → Adds before line.now self.new result }
+            → AddsLine before line.now self.new result }
         ensures own { result ≡ Err GraphError.ReadFault → ⊥ }
     {
         match judge(line, self.problem, self.arcs.len()) {
@@ -85,7 +85,7 @@ impl Builder {
         ensures sound { IsSound self.new }
         ensures lines { self.new.lines ≤ self.old.lines + 1 }
         ensures adds { (before : List (List ℕ)) (line : List ℕ) → IsAfter before self.old
-            → IsLongLine MAX_LINE line first → Adds before line self.new result }
+            → IsLongLine MAX_LINE line first → AddsLine before line self.new result }
         ensures own { result ≡ Err GraphError.ReadFault → ⊥ }
     {
         if !begins_comment(first) {

@@ -155,3 +155,24 @@ fn writes_the_canonical_text(rt: HostRuntime) -> Result<(), Fail> {
     assert!(rt; write_graph(&mut failing, &graph) == Put::Failed);
     Ok(())
 }
+
+#[test]
+fn an_error_says_the_line_and_what_is_wrong(rt: HostRuntime) -> Result<(), Fail> {
+    let fault = GraphFault {
+        line: 3,
+        kind: GraphKind::TooFewArcs,
+    };
+    assert_eq!(rt; fault.kind.word(), "too-few-arcs");
+    let rows = [
+        (
+            GraphError::Refused(fault),
+            "line 3: there are fewer arcs than the problem line says",
+        ),
+        (GraphError::ReadFault, "a read of the file failed"),
+        (GraphError::NoMemory, "out of memory"),
+    ];
+    for (error, text) in rows {
+        assert_eq!(rt; format!(in rt.alloc(); "{error}")?.as_str(), text);
+    }
+    Ok(())
+}

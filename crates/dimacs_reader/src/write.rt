@@ -26,7 +26,7 @@ struct Pending {
 }
 
 impl Pending {
-    ghost use Rattle.dimacs_reader.specs.Pending.{pending, Sends};
+    ghost use Rattle.dimacs_reader.specs.Pending.{pending, SendsPiece};
 
     fn new() -> Pending
         ensures { pending result ≡ [] }
@@ -98,7 +98,7 @@ impl Pending {
     /// Writes what was gathered where a further line might find no room.
     fn make_room<K: Sink>(&mut self, sink: &mut K) -> Put
         ensures room { self.new.used + LINE_ROOM ≤ ROOM }
-        ensures sent { Sends (pending self.old) (pending self.new)
+        ensures sent { SendsPiece (pending self.old) (pending self.new)
             (K.written sink.old) (K.written sink.new) result }
         ensures count { K.faults sink.old ≤ K.faults sink.new }
         ensures cause { result ≡ Put.Failed → HasRisen (K.faults sink.old) (K.faults sink.new) }

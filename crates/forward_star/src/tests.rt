@@ -1,5 +1,5 @@
 use super::*;
-use road_model::{ArcNo, ArcRow, ArcRows, GraphFile, Network, Step, Vertex};
+use road_model::{ArcNo, ArcRow, ArcRows, Change, ChangeFault, GraphFile, Network, Step, Vertex};
 use std::alloc::Global;
 use std::test::Fail;
 
@@ -45,6 +45,7 @@ fn lists_arcs_in_both_directions(rt: HostRuntime) -> Result<(), Fail> {
     ];
     let star = Star::build(rt.alloc(), graph_of(rt.alloc(), 6, &arcs)?)?;
     assert_eq!(rt; star.vertices(), 6);
+    assert_eq!(rt; star.arc_count(), 7);
     let out = [
         (0, 0, None),
         (1, 0, step(1, 2, 10)),
@@ -75,6 +76,94 @@ fn lists_arcs_in_both_directions(rt: HostRuntime) -> Result<(), Fail> {
     for (v, i, wanted) in into {
         assert_eq!(rt; star.into_step(Vertex(v), i), wanted);
         assert_eq!(rt; reversed.out(Vertex(v), i), wanted);
+    }
+    Ok(())
+}
+
+fn change(arc: u32, length: u64) -> Change {
+    Change {
+        arc: ArcNo(arc),
+        length,
+    }
+}
+
+#[test]
+fn changes_lengths_and_leaves_the_star_as_it_was(rt: HostRuntime) -> Result<(), Fail> {
+    let arcs = [(1, 2, 10), (3, 2, 5), (1, 3, 11), (1, 1, 6)];
+    let star = Star::build(rt.alloc(), graph_of(rt.alloc(), 3, &arcs)?)?;
+    let changes = [
+        change(3, 4),
+        change(4, 1),
+        change(2, 4294967295),
+        change(3, 7),
+    ];
+    let changed = star.with(rt.alloc(), &changes)?;
+    let again = changed.with(rt.alloc(), &[change(1, 2)])?;
+    let out = [
+        (1, 0, step(1, 2, 10), step(1, 2, 10), step(1, 2, 2)),
+        (1, 1, step(3, 3, 11), step(3, 3, 7), step(3, 3, 7)),
+        (1, 2, step(4, 1, 6), step(4, 1, 1), step(4, 1, 1)),
+        (1, 3, None, None, None),
+        (
+            3,
+            0,
+            step(2, 2, 5),
+            step(2, 2, 4294967295),
+            step(2, 2, 4294967295),
+        ),
+    ];
+    for (v, i, before, after, last) in out {
+        assert_eq!(rt; star.out(Vertex(v), i), before);
+        assert_eq!(rt; changed.out(Vertex(v), i), after);
+        assert_eq!(rt; again.out(Vertex(v), i), last);
+    }
+    let into = [
+        (1, 0, step(4, 1, 6), step(4, 1, 1), step(4, 1, 1)),
+        (2, 0, step(1, 1, 10), step(1, 1, 10), step(1, 1, 2)),
+        (
+            2,
+            1,
+            step(2, 3, 5),
+            step(2, 3, 4294967295),
+            step(2, 3, 4294967295),
+        ),
+        (3, 0, step(3, 1, 11), step(3, 1, 7), step(3, 1, 7)),
+    ];
+    for (v, i, before, after, last) in into {
+        assert_eq!(rt; star.into_step(Vertex(v), i), before);
+        assert_eq!(rt; changed.into_step(Vertex(v), i), after);
+        assert_eq!(rt; again.into_step(Vertex(v), i), last);
+    }
+    let lengths = [(1, 10, 2), (2, 5, 4294967295), (3, 11, 7), (4, 6, 1)];
+    for (number, before, last) in lengths {
+        let row = star.arc(ArcNo(number)).ok_or("an arc")?;
+        assert_eq!(rt; row.length, before);
+        let row = again.arc(ArcNo(number)).ok_or("an arc")?;
+        assert_eq!(rt; row.length, last);
+    }
+    Ok(())
+}
+
+#[test]
+fn refuses_changes_by_the_first_that_fails(rt: HostRuntime) -> Result<(), Fail> {
+    let star = Star::build(
+        rt.alloc(),
+        graph_of(rt.alloc(), 2, &[(1, 2, 5), (2, 1, 6)])?,
+    )?;
+    let rows = [
+        (1, 1, 2, 4294967295, None),
+        (0, 1, 1, 1, Some(ChangeFault::ArcRange)),
+        (1, 1, 3, 1, Some(ChangeFault::ArcRange)),
+        (2, 0, 1, 1, Some(ChangeFault::LengthRange)),
+        (1, 1, 1, 4294967296, Some(ChangeFault::LengthRange)),
+        (3, 0, 1, 1, Some(ChangeFault::ArcRange)),
+        (1, 0, 3, 1, Some(ChangeFault::LengthRange)),
+        (3, 1, 1, 0, Some(ChangeFault::ArcRange)),
+    ];
+    for (first, length, second, other, wanted) in rows {
+        let changes = [change(first, length), change(second, other)];
+        let found = star.with(rt.alloc(), &changes).err();
+        assert_eq!(rt; found, wanted);
     }
     Ok(())
 }

@@ -9,7 +9,7 @@ use Rattle.rand_xoshiro.specs.SplitMix64.{mix_u64}
 use Rattle.road_model.specs.declared.rows.ArcRow.{ArcRow}
 use Rattle.road_model.specs.Graph.{IsArc, IsVertex}
 use Rattle.road_model.specs.File.{IsWithinLimits}
-use Rattle.grid_maker.specs.Grid.{IsSide, both_ways, cell_ends, grid, grid_ends, lower_ends, right_ends, row_ends, row_of, rows_from, vertex_at}
+use Rattle.grid_maker.specs.Grid.{IsSide, both_ways, cell_ends, grid, grid_ends, lower_ends, right_ends, row_ends, row_of, rows_from, corner_at}
 
 record AreEnds (n : ℕ) (ends : ℕ × ℕ) : Type 0 where
   tail : IsVertex n ends.0
@@ -37,7 +37,7 @@ bounded_pieces n k f first (suc count) end fits each =
     let sum : k + k * count ≤ k * suc count = omega arith in
     bounded_append n k (k * count) (k * suc count) (f first) (flat_map f (range_with_len (first + 1) count)) sum (each first here) (bounded_pieces n k f (first + 1) count end rest each)
 
-vertex_within : (w h r c : ℕ) → r < h → c < w → IsVertex (w * h) (vertex_at w r c)
+vertex_within : (w h r c : ℕ) → r < h → c < w → IsVertex (w * h) (corner_at w r c)
 vertex_within w h r c in_row in_column = record { first = omega arith; last = omega (arith, mul-add-lt r w c h in_row in_column) }
 
 bounded_street : (n u v : ℕ) → IsVertex n u → IsVertex n v → Bounded n 2 (both_ways u v)
@@ -53,8 +53,8 @@ bounded_right : (w h r c : ℕ) → r < h → c < w → Bounded (w * h) 2 (right
 bounded_right w h r c in_row in_column =
     ⊎_elim
     (λ (inside : c + 1 < w).
-    let is : both_ways (vertex_at w r c) (vertex_at w r (c + 1)) ≡ right_ends w r c = grind (arith, nat_tests) in
-    subst (Bounded (w * h) 2) is (bounded_street (w * h) (vertex_at w r c) (vertex_at w r (c + 1)) (vertex_within w h r c in_row in_column) (vertex_within w h r (c + 1) in_row inside)))
+    let is : both_ways (corner_at w r c) (corner_at w r (c + 1)) ≡ right_ends w r c = grind (arith, nat_tests) in
+    subst (Bounded (w * h) 2) is (bounded_street (w * h) (corner_at w r c) (corner_at w r (c + 1)) (vertex_within w h r c in_row in_column) (vertex_within w h r (c + 1) in_row inside)))
     (λ (outside : w ≤ c + 1).
     let is : [] ≡ right_ends w r c = grind (arith, nat_tests) in
     subst (Bounded (w * h) 2) is (bounded_none (w * h) 2))
@@ -64,8 +64,8 @@ bounded_lower : (w h r c : ℕ) → r < h → c < w → Bounded (w * h) 2 (lower
 bounded_lower w h r c in_row in_column =
     ⊎_elim
     (λ (inside : r + 1 < h).
-    let is : both_ways (vertex_at w r c) (vertex_at w (r + 1) c) ≡ lower_ends w h r c = grind (arith, nat_tests) in
-    subst (Bounded (w * h) 2) is (bounded_street (w * h) (vertex_at w r c) (vertex_at w (r + 1) c) (vertex_within w h r c in_row in_column) (vertex_within w h (r + 1) c inside in_column)))
+    let is : both_ways (corner_at w r c) (corner_at w (r + 1) c) ≡ lower_ends w h r c = grind (arith, nat_tests) in
+    subst (Bounded (w * h) 2) is (bounded_street (w * h) (corner_at w r c) (corner_at w (r + 1) c) (vertex_within w h r c in_row in_column) (vertex_within w h (r + 1) c inside in_column)))
     (λ (outside : h ≤ r + 1).
     let is : [] ≡ lower_ends w h r c = grind (arith, nat_tests) in
     subst (Bounded (w * h) 2) is (bounded_none (w * h) 2))

@@ -1,5 +1,5 @@
 -- Grids of two-way streets, whose lengths a generator of words gives.
---   vertex_at w r c     the vertex in row r and column c, both counted from 0, of a grid w wide
+--   corner_at w r c     the vertex in row r and column c, both counted from 0, of a grid w wide
 --   both_ways u v       the ends of an arc from u to v, and of one back
 --   right_ends, lower_ends   the ends of the two arcs with the right neighbour, and with the lower one, where there is
 --                       one
@@ -8,7 +8,7 @@
 --   grid_ends w h       the arcs of all vertices, row by row
 --   row_of ends word    the arc of these ends that a word gives, 1 to 1000 long
 --   rows_from x ends    these arcs, where the generator stands at x: each takes the next word, and is 1 to 1000 long
---   state_behind x ends the state of the generator after them
+--   state_after x ends the state of the generator after them
 --   grid x w h          the grid that a generator makes
 --   IsSide n            a side of a grid that is made: 1 to 4096
 -- The generator is SplitMix64, whose step `mix_u64` gives a word and its next state.
@@ -18,17 +18,17 @@ use Rattle.rand_xoshiro.specs.SplitMix64.{mix_u64}
 use Rattle.road_model.specs.declared.rows.ArcRow.{ArcRow}
 use Rattle.road_model.specs.Graph.{Graph}
 
-abbrev pub vertex_at : ℕ → ℕ → ℕ → ℕ
-vertex_at width r c = r * width + c + 1
+abbrev pub corner_at : ℕ → ℕ → ℕ → ℕ
+corner_at width r c = r * width + c + 1
 
 abbrev pub both_ways : ℕ → ℕ → List (ℕ × ℕ)
 both_ways u v = (u, v) ∷ (v, u) ∷ []
 
 abbrev pub right_ends : ℕ → ℕ → ℕ → List (ℕ × ℕ)
-right_ends width r c = if nat_lt (c + 1) width then both_ways (vertex_at width r c) (vertex_at width r (c + 1)) else []
+right_ends width r c = if nat_lt (c + 1) width then both_ways (corner_at width r c) (corner_at width r (c + 1)) else []
 
 abbrev pub lower_ends : ℕ → ℕ → ℕ → ℕ → List (ℕ × ℕ)
-lower_ends width height r c = if nat_lt (r + 1) height then both_ways (vertex_at width r c) (vertex_at width (r + 1) c) else []
+lower_ends width height r c = if nat_lt (r + 1) height then both_ways (corner_at width r c) (corner_at width (r + 1) c) else []
 
 abbrev pub cell_ends : ℕ → ℕ → ℕ → ℕ → List (ℕ × ℕ)
 cell_ends width height r c = right_ends width r c ++ lower_ends width height r c
@@ -46,9 +46,9 @@ unfoldable pub rows_from : ℕ → List (ℕ × ℕ) → List ArcRow
 rows_from x [] = []
 rows_from x (ends ∷ more) = row_of ends (mix_u64 x).0 ∷ rows_from (mix_u64 x).1 more
 
-unfoldable pub state_behind : ℕ → List (ℕ × ℕ) → ℕ
-state_behind x [] = x
-state_behind x (ends ∷ more) = state_behind (mix_u64 x).1 more
+unfoldable pub state_after : ℕ → List (ℕ × ℕ) → ℕ
+state_after x [] = x
+state_after x (ends ∷ more) = state_after (mix_u64 x).1 more
 
 unfoldable pub grid : ℕ → ℕ → ℕ → Graph
 grid x width height = record { vertices = width * height; arcs = rows_from x (grid_ends width height) }

@@ -5,7 +5,7 @@ mod sides;
 mod streets;
 
 ghost use Rattle.std.specs.Prelude.{◌≡◌, ◌↔◌, IfOk, IsErrOf};
-ghost use Rattle.grid_maker.specs.Grid.{IsSide, grid, grid_ends, state_behind};
+ghost use Rattle.grid_maker.specs.Grid.{IsSide, grid, grid_ends, state_after};
 ghost use Rattle.grid_maker.specs.declared.MakeFault.TheVariants.{NoMemory};
 
 use crate::sides::Sides;
@@ -13,6 +13,8 @@ use crate::streets::Streets;
 use rand_xoshiro::SplitMix64;
 use road_model::{ArcRows, GraphFile};
 use std::alloc::{AllocError, Global};
+use std::error::Error;
+use std::fmt;
 
 /// Why no grid was made.
 #[derive(Clone, Copy, Debug, PartialEq, Eq)]
@@ -22,6 +24,22 @@ pub enum MakeFault {
     /// Memory was refused.
     NoMemory,
 }
+
+impl fmt::Display for MakeFault {
+    ghost use Rattle.std.specs.Prelude.{Some};
+    ghost use Rattle.grid_maker.specs.Messages.{fault_text};
+
+    ghost output = { λ fault. Some (fault_text fault) };
+
+    fn fmt<W: fmt::Write>(&self, f: &mut fmt::Formatter<W>) -> fmt::Result {
+        f.write_str(match self {
+            MakeFault::Size => "a side is outside 1 to 4096",
+            MakeFault::NoMemory => "out of memory",
+        })
+    }
+}
+
+impl Error for MakeFault {}
 
 impl From<AllocError> for MakeFault {
     ghost from_gives = { λ _ e. e ≡ NoMemory };
@@ -46,7 +64,7 @@ pub fn make(
 ) -> Result<(GraphFile, SplitMix64), MakeFault>
     ensures size { IsErrOf result MakeFault.Size ↔ (IsSide width × IsSide height → ⊥) }
     ensures grid { IfOk result (λ made. made.0 ≡ grid seed width height) }
-    ensures behind { IfOk result (λ made. made.1 ≡ state_behind seed (grid_ends width height)) }
+    ensures beyond { IfOk result (λ made. made.1 ≡ state_after seed (grid_ends width height)) }
 {
     let Some(sides) = Sides::new(width, height) else {
         return Err(MakeFault::Size);

@@ -1,7 +1,7 @@
 //! The sides of a grid.
 
 ghost use Rattle.std.specs.Prelude.{◌≡◌, ◌≤◌, ◌*◌, ◌↔◌, IfSome, IsNone, IsTrue};
-ghost use Rattle.grid_maker.specs.Grid.{IsSide, vertex_at};
+ghost use Rattle.grid_maker.specs.Grid.{IsSide, corner_at};
 
 use road_model::Vertex;
 
@@ -51,7 +51,7 @@ impl Sides {
     pub fn vertex(self, row: u32, column: u32) -> Vertex
         requires row { row ≤ 4096 }
         requires column { column ≤ 4096 }
-        ensures { result ≡ vertex_at self.width row column }
+        ensures { result ≡ corner_at self.width row column }
     {
         Vertex(row * self.width + column + 1)
     }

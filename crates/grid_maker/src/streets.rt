@@ -2,7 +2,7 @@
 
 ghost use Rattle.std.specs.Prelude.{◌≡◌, ◌<◌, [], ◌∷◌, IfOk, OnOk};
 ghost use Rattle.grid_maker.specs.Grid.{both_ways, cell_ends, grid_ends, lower_ends, right_ends, row_ends};
-ghost use Rattle.grid_maker.specs.Making.{Adds, IsEmpty};
+ghost use Rattle.grid_maker.specs.Making.{AddsStreets, IsEmpty};
 
 use crate::sides::Sides;
 use rand_core::SeedableRng;
@@ -31,7 +31,7 @@ impl Streets {
 
     // Adds an arc, whose length the next word gives.
     fn push_arc(&mut self, tail: Vertex, head: Vertex) -> Result<(), AllocError>
-        ensures { OnOk result (Adds self.old self.new ((tail, head) ∷ [])) }
+        ensures { OnOk result (AddsStreets self.old self.new ((tail, head) ∷ [])) }
     {
         let word = self.words.next_word();
         self.arcs.push(ArcRow {
@@ -44,7 +44,7 @@ impl Streets {
 
     // Adds the two arcs of a street.
     fn push_street(&mut self, from: Vertex, to: Vertex) -> Result<(), AllocError>
-        ensures { OnOk result (Adds self.old self.new (both_ways from to)) }
+        ensures { OnOk result (AddsStreets self.old self.new (both_ways from to)) }
     {
         self.push_arc(from, to)?;
         self.push_arc(to, from)?;
@@ -55,7 +55,7 @@ impl Streets {
     fn push_right(&mut self, sides: Sides, row: u32, column: u32) -> Result<(), AllocError>
         requires row { row < sides.height }
         requires column { column < sides.width }
-        ensures { OnOk result (Adds self.old self.new (right_ends sides.width row column)) }
+        ensures { OnOk result (AddsStreets self.old self.new (right_ends sides.width row column)) }
     {
         if column + 1 < sides.width {
             return self.push_street(sides.vertex(row, column), sides.vertex(row, column + 1));
@@ -67,7 +67,7 @@ impl Streets {
     fn push_lower(&mut self, sides: Sides, row: u32, column: u32) -> Result<(), AllocError>
         requires row { row < sides.height }
         requires column { column < sides.width }
-        ensures { OnOk result (Adds self.old self.new (lower_ends sides.width sides.height row column)) }
+        ensures { OnOk result (AddsStreets self.old self.new (lower_ends sides.width sides.height row column)) }
     {
         if row + 1 < sides.height {
             return self.push_street(sides.vertex(row, column), sides.vertex(row + 1, column));
@@ -79,7 +79,7 @@ impl Streets {
     fn push_cell(&mut self, sides: Sides, row: u32, column: u32) -> Result<(), AllocError>
         requires row { row < sides.height }
         requires column { column < sides.width }
-        ensures { OnOk result (Adds self.old self.new (cell_ends sides.width sides.height row column)) }
+        ensures { OnOk result (AddsStreets self.old self.new (cell_ends sides.width sides.height row column)) }
     {
         self.push_right(sides, row, column)?;
         self.push_lower(sides, row, column)?;
@@ -89,7 +89,7 @@ impl Streets {
     // Adds the streets of a row.
     fn push_row(&mut self, sides: Sides, row: u32) -> Result<(), AllocError>
         requires { row < sides.height }
-        ensures { OnOk result (Adds self.old self.new (row_ends sides.width sides.height row)) }
+        ensures { OnOk result (AddsStreets self.old self.new (row_ends sides.width sides.height row)) }
     {
         for column in 0..sides.width {
             self.push_cell(sides, row, column)?;
@@ -99,7 +99,7 @@ impl Streets {
 
     /// Adds all streets of a grid.
     pub fn push_grid(&mut self, sides: Sides) -> Result<(), AllocError>
-        ensures { OnOk result (Adds self.old self.new (grid_ends sides.width sides.height)) }
+        ensures { OnOk result (AddsStreets self.old self.new (grid_ends sides.width sides.height)) }
     {
         for row in 0..sides.height {
             self.push_row(sides, row)?;

@@ -30,9 +30,9 @@ shortest_below g u v p limits h =
 
 via_below : (g : Graph) (s t v : ℕ) (p : List ℕ) → IsWithinLimits g → IsVia g s t v p → walk_length g p ≤ 2 ^ 58
 via_below g s t v p limits h =
-    let front = shortest_below g s v h.front limits h.first.shortest in
+    let prefix = shortest_below g s v h.prefix limits h.first.shortest in
     let back = shortest_below g v t h.back limits h.last.shortest in
-    omega (arith, ap (λ (q : List ℕ). walk_length g q) h.joined, walk_length-append g h.front h.back)
+    omega (arith, ap (λ (q : List ℕ). walk_length g q) h.joined, walk_length-append g h.prefix h.back)
 
 abbrev IsShort : Route → Type 0
 IsShort r = r.length ≤ 2 ^ 58

@@ -75,9 +75,9 @@ progress_start g x queries left s all vertices arcs asked none routes long = rec
 
 -- the query of the next two words
 pub next_query : (g : Graph) (n x y a b : ℕ) (q : Query) → n ≡ g.vertices → a ≡ drawn n x → y ≡ step x → b ≡ drawn n y → q ≡ usual a b → q ≡ usual (drawn g.vertices x) (drawn g.vertices (step x))
-next_query g n x y a b q vertices from behind to is =
+next_query g n x y a b q vertices from beyond to is =
     let from_is : a ≡ drawn g.vertices x = from ∙ ap (λ (k : ℕ). drawn k x) vertices in
-    let to_is : b ≡ drawn g.vertices (step x) = to ∙ ap (λ (k : ℕ). drawn n k) behind ∙ ap (λ (k : ℕ). drawn k (step x)) vertices in
+    let to_is : b ≡ drawn g.vertices (step x) = to ∙ ap (λ (k : ℕ). drawn n k) beyond ∙ ap (λ (k : ℕ). drawn k (step x)) vertices in
     is ∙ ap (λ (k : ℕ). usual k b) from_is ∙ ap (λ (k : ℕ). usual (drawn g.vertices x) k) to_is
 
 -- the counts of 10000 answers fit
@@ -94,7 +94,7 @@ has_room g x queries now left s q plan limits few more h answer =
 
 -- one more answer
 pub progress_more : (g : Graph) (x queries now then left rest : ℕ) (a b : Summary) (q : Query) (plan : Plan) → left ≡ suc rest → then ≡ step (step now) → q ≡ usual (drawn g.vertices now) (drawn g.vertices (step now)) → IsProgress g x queries now left a → IsAnswer g q plan → Counts a b plan → IsProgress g x queries then rest b
-progress_more g x queries now then left rest a b q plan next behind query h answer counted =
+progress_more g x queries now then left rest a b q plan next beyond query h answer counted =
     let n = g.vertices in
     let d : ℕ × ℕ = (drawn n now, drawn n (step now)) in
     record {
@@ -103,7 +103,7 @@ progress_more g x queries now then left rest a b q plan next behind query h answ
           h.split
           ∙ ap (λ (ds : List (ℕ × ℕ)). h.done ++ ds) (draws_next now n left rest next)
           ∙ sym (append_assoc h.done (d ∷ []) (draws (step (step now)) n rest))
-          ∙ ap (λ (y : ℕ). (h.done ++ d ∷ []) ++ draws y n rest) (sym behind);
+          ∙ ap (λ (y : ℕ). (h.done ++ d ∷ []) ++ draws y n rest) (sym beyond);
       many = omega (arith, h.many, next, length-append h.done (d ∷ []));
       plans = h.plans ++ plan ∷ [];
       answers = answers_push g h.done h.plans d plan h.answers (subst (λ (r : Query). IsAnswer g r plan) query answer);

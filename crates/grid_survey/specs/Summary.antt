@@ -8,7 +8,7 @@
 --   length_in plan       the sum of their lengths
 --   IsSummary g ds s     the summary of these queries over the graph
 --   IsSurvey ..          the summary of a grid, and of so many queries drawn after its lengths
---   line_text line       the line with its line feed
+--   summary_line line       the line with its line feed
 --   graph_line, queries_line, routes_line   the first three lines of a summary
 --   summary_text s       its four lines
 use Rattle.std.specs.Prelude.{◌≡◌, ℕ, suc, zero, ◌+◌, ◌%◌, Bool, true, false, List, [], ◌∷◌, ◌++◌, length, codes, decimal}
@@ -20,7 +20,7 @@ use Rattle.road_model.specs.declared.answer.Route.{Route}
 use Rattle.road_model.specs.Graph.{Graph, arc_count}
 use Rattle.road_model.specs.Queries.{usual}
 use Rattle.road_model.specs.Answers.{IsAnswer}
-use Rattle.grid_maker.specs.Grid.{grid, grid_ends, state_behind}
+use Rattle.grid_maker.specs.Grid.{grid, grid_ends, state_after}
 use Rattle.grid_survey.specs.declared.Summary.{Summary}
 
 -- a vertex by the next word
@@ -65,19 +65,19 @@ pub record IsSummary (g : Graph) (ds : List (ℕ × ℕ)) (s : Summary) : Type 0
 abbrev pub IsSurvey : ℕ → ℕ → ℕ → ℕ → Summary → Type 0
 IsSurvey seed width height queries s =
     IsSummary (grid seed width height)
-    (draws (state_behind seed (grid_ends width height)) (grid seed width height).vertices queries) s
+    (draws (state_after seed (grid_ends width height)) (grid seed width height).vertices queries) s
 
-abbrev pub line_text : List ℕ → List ℕ
-line_text line = line ++ 10 ∷ []
+abbrev pub summary_line : List ℕ → List ℕ
+summary_line line = line ++ 10 ∷ []
 
 abbrev pub graph_line : Summary → List ℕ
-graph_line s = line_text (codes "graph vertices " ++ decimal s.vertices ++ codes " arcs " ++ decimal s.arcs)
+graph_line s = summary_line (codes "graph vertices " ++ decimal s.vertices ++ codes " arcs " ++ decimal s.arcs)
 
 abbrev pub queries_line : Summary → List ℕ
-queries_line s = line_text (codes "queries " ++ decimal s.queries ++ codes " none " ++ decimal s.without_path)
+queries_line s = summary_line (codes "queries " ++ decimal s.queries ++ codes " none " ++ decimal s.without_path)
 
 abbrev pub routes_line : Summary → List ℕ
-routes_line s = line_text (codes "routes " ++ decimal s.routes ++ codes " length " ++ decimal s.length)
+routes_line s = summary_line (codes "routes " ++ decimal s.routes ++ codes " length " ++ decimal s.length)
 
 abbrev pub summary_text : Summary → List ℕ
-summary_text s = graph_line s ++ queries_line s ++ routes_line s ++ line_text (codes "end")
+summary_text s = graph_line s ++ queries_line s ++ routes_line s ++ summary_line (codes "end")

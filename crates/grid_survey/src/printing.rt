@@ -1,7 +1,7 @@
 //! The lines of a summary.
 
 ghost use Rattle.std.specs.Prelude.{◌≡◌, ◌++◌, OnOk, decimal};
-ghost use Rattle.grid_survey.specs.Summary.{line_text};
+ghost use Rattle.grid_survey.specs.Summary.{summary_line};
 
 use itoa::Buffer;
 use std::alloc::AllocError;
@@ -23,7 +23,7 @@ pub fn push_line(
     other_number: u128,
 ) -> Result<(), AllocError>
     ensures { OnOk result (out.new.items
-        ≡ out.old.items ++ line_text (words.now ++ decimal number ++ more_words.now ++ decimal other_number)) }
+        ≡ out.old.items ++ summary_line (words.now ++ decimal number ++ more_words.now ++ decimal other_number)) }
 {
     out.extend_from_slice(words)?;
     push_number(out, number)?;

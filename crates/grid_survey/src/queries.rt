@@ -19,7 +19,7 @@ fn drawn(words: &mut SplitMix64, vertices: u32) -> Vertex
     requires { 1 ≤ vertices }
     ensures value { result ≡ drawn vertices words.old }
     ensures inside { IsVertex vertices result }
-    ensures behind { words.new ≡ step words.old }
+    ensures beyond { words.new ≡ step words.old }
 {
     Vertex(1 + (words.next_word() % u64::from(vertices)) as u32)
 }
@@ -46,7 +46,7 @@ pub fn answer_all(
     let vertices = star.vertices();
     let mut summary = Summary {
         vertices,
-        arcs: star.graph().arcs().len() as u32,
+        arcs: star.arc_count(),
         queries,
         without_path: 0,
         routes: 0,

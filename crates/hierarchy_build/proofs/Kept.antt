@@ -117,6 +117,7 @@ KeptSoFar-none n first head full thinned l is_first is_head is_length =
     let begin : slice_index l.first 0 ≡ 0 = ap (λ (xs : List ℕ). slice_index xs 0) is_first in
     record {
       size = ap (λ (xs : List ℕ). length xs) is_first;
+      begin = begin;
       end = omega arith;
       even = omega arith;
       few = omega arith;
@@ -143,6 +144,7 @@ KeptSoFar-more n v first head full thinned old new next is_v h a is_first is_hea
     let inside : (u k : ℕ) → u < v → InSpan old.first u k → k < length old.head = (λ u k lt span. let high = span.high in let rise = h.rising (u + 1) v (omega arith) (omega arith) in omega arith) in
     record {
       size = ap (λ (l : List ℕ). length l) firsts ∙ one_more old.first (length new.head) ∙ ap (λ (x : ℕ). x + 1) size;
+      begin = first_at 0 (omega arith) ∙ h.begin;
       end = first_end ∙ ap (λ (l : List ℕ). length l) (sym is_head);
       even = ap (λ (l : List ℕ). length l) is_length ∙ a.even ∙ ap (λ (l : List ℕ). length l) (sym is_head);
       few = (let e : length next.head ≡ length new.head = ap (λ (l : List ℕ). length l) is_head in omega arith);
@@ -232,6 +234,7 @@ AreKept-all n v first head full thinned l is_n so_far =
     record {
       links = record {
         size = h.size;
+        begin = h.begin;
         end = h.end;
         even = h.even;
         rising = h.rising;

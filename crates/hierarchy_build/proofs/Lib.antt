@@ -11,4 +11,5 @@ pub mod Least
 pub mod Whole
 pub mod Named
 pub mod Own
+pub mod RisingArcs
 pub mod Versions

@@ -1,5 +1,5 @@
 -- The graph that a hierarchy's links form has the distances of the graph that it was built of.
-use Rattle.std.proofs.Common.{◌≡◌, ◌+◌, ◌-◌, ◌<◌, ◌≤◌, ◌⊎◌, ℕ, zero, suc, List, [], ◌∷◌, Option, Some, None, length, map, slice_index, refl, sym, ap, ◌∙◌, subst, arith, inl, inr, ⊎_elim}
+use Rattle.std.proofs.Common.{◌≡◌, ◌+◌, ◌-◌, ◌^◌, ◌<◌, ◌≤◌, ◌⊎◌, ℕ, zero, suc, List, [], ◌∷◌, Option, Some, None, length, map, slice_index, refl, sym, ap, ◌∙◌, subst, arith, inl, inr, ⊎_elim}
 use Rattle.std.specs.List.{All, Contains, flat_map, range_with_len}
 use Rattle.std.proofs.lemmas.Bool.{cases_lt}
 use Rattle.std.proofs.lemmas.List.{get_or-map, length-map}
@@ -12,13 +12,13 @@ use Rattle.road_model.specs.Walk.{IsWalk, walk_length}
 use Rattle.road_model.specs.Dist.{HasWalk, IsDist, DistsBelow, NoneShorter, HaveSameDist}
 use Rattle.road_model.proofs.Walks.{IsArc-at, IsWalk-inside, walk_length-positive}
 use Rattle.hierarchy_build.specs.declared.links.Links.{Links}
-use Rattle.hierarchy_build.specs.declared.hierarchy.Hierarchy.{Hierarchy}
+use Rattle.hierarchy_build.specs.Parts.{Parts}
 use Rattle.hierarchy_build.specs.Hills.{HillWithin, IsSound, AreShortest, HasHills, HasHillDists}
 use Rattle.hierarchy_build.specs.Runs.{InSpan, IsUp, IsShape, IsRanked, IsPlaced}
 use Rattle.hierarchy_build.specs.Lengths.{no_link}
 use Rattle.hierarchy_build.specs.Links.{links_of, AreLinks}
 use Rattle.hierarchy_build.specs.Hierarchy.{IsShapeOf, IsHierarchy}
-use Rattle.hierarchy_build.specs.Own.{link_row, run_rows, link_rows, own_graph}
+use Rattle.hierarchy_build.specs.Own.{link_row, run_rows, link_rows, own_graph, IsOwn}
 use Rattle.hierarchy_build.proofs.Hills.{HasWalk-joined, walk_of_hill, hills_have_dists}
 use Rattle.hierarchy_build.proofs.Arcs.{HasWalk-arc}
 use Rattle.hierarchy_build.proofs.Whole.{IsBuilt, row_at}
@@ -34,7 +34,7 @@ rows_of_run P order l a each =
     let at = get_or-range_with_len (slice_index l.first a) (slice_index l.first (a + 1) - slice_index l.first a) i d low in
     subst (λ (k : ℕ). P (link_row order l a k)) (sym at) (each (slice_index l.first a + i) (record { low = omega arith; high = omega arith })))
 
-rows_of_runs : (P : ArcRow → Type 0) (order : List ℕ) (l : Links) (many from : ℕ) → ((a k : ℕ) → from ≤ a → a < from + many → InSpan l.first a k → P (link_row order l a k)) → All P (flat_map (run_rows order l) (range_with_len from many))
+pub rows_of_runs : (P : ArcRow → Type 0) (order : List ℕ) (l : Links) (many from : ℕ) → ((a k : ℕ) → from ≤ a → a < from + many → InSpan l.first a k → P (link_row order l a k)) → All P (flat_map (run_rows order l) (range_with_len from many))
 rows_of_runs P order l zero from each = All-nil P
 rows_of_runs P order l (suc many) from each =
     All-append P (run_rows order l from) (flat_map (run_rows order l) (range_with_len (from + 1) many))
@@ -75,24 +75,24 @@ HasWalk-row g r there =
     HasWalk-arc g (suc there.0) r r.tail r.head (slice_get-get_or g.arcs there.0 r there.1 ∙ ap (λ (x : ArcRow). Some x) there.2) refl refl
 
 -- each link is a walk of the hierarchy's own graph
-own_sound : (h : Hierarchy) → IsSound (own_graph h) (slice_index h.shape.value.order) (links_of (length h.shape.value.order) h.up) (links_of (length h.shape.value.order) h.down)
+own_sound : (h : Parts) → IsSound (own_graph h) (slice_index h.shape.order) (links_of (length h.shape.order) h.up) (links_of (length h.shape.order) h.down)
 own_sound h =
     record {
       up = (λ a b x link.
-          let walk : HasWalk (own_graph h) (slice_index h.shape.value.order a) (slice_index h.shape.value.order (slice_index h.up.head link.place)) (slice_index h.up.length link.place) =
-          HasWalk-row (own_graph h) (link_row h.shape.value.order h.up a link.place)
-          (Contains-append_left (link_rows h.shape.value.order h.up) (map turned (link_rows h.shape.value.order h.down)) (link_row h.shape.value.order h.up a link.place)
-          (runs_have h.shape.value.order h.up (length h.shape.value.order) 0 a link.place (omega arith) (let i = link.inside in omega arith) link.span)) in
-          subst (λ (k : ℕ). HasWalk (own_graph h) (slice_index h.shape.value.order a) (slice_index h.shape.value.order b) k) link.long
-          (subst (λ (z : ℕ). HasWalk (own_graph h) (slice_index h.shape.value.order a) (slice_index h.shape.value.order z) (slice_index h.up.length link.place)) link.leads walk));
+          let walk : HasWalk (own_graph h) (slice_index h.shape.order a) (slice_index h.shape.order (slice_index h.up.head link.place)) (slice_index h.up.length link.place) =
+          HasWalk-row (own_graph h) (link_row h.shape.order h.up a link.place)
+          (Contains-append_left (link_rows h.shape.order h.up) (map turned (link_rows h.shape.order h.down)) (link_row h.shape.order h.up a link.place)
+          (runs_have h.shape.order h.up (length h.shape.order) 0 a link.place (omega arith) (let i = link.inside in omega arith) link.span)) in
+          subst (λ (k : ℕ). HasWalk (own_graph h) (slice_index h.shape.order a) (slice_index h.shape.order b) k) link.long
+          (subst (λ (z : ℕ). HasWalk (own_graph h) (slice_index h.shape.order a) (slice_index h.shape.order z) (slice_index h.up.length link.place)) link.leads walk));
       down = (λ a b x link.
-          let walk : HasWalk (own_graph h) (slice_index h.shape.value.order (slice_index h.down.head link.place)) (slice_index h.shape.value.order a) (slice_index h.down.length link.place) =
-          HasWalk-row (own_graph h) (turned (link_row h.shape.value.order h.down a link.place))
-          (Contains-append_right (link_rows h.shape.value.order h.up) (map turned (link_rows h.shape.value.order h.down)) (turned (link_row h.shape.value.order h.down a link.place))
-          (Contains-turned (link_rows h.shape.value.order h.down) (link_row h.shape.value.order h.down a link.place)
-          (runs_have h.shape.value.order h.down (length h.shape.value.order) 0 a link.place (omega arith) (let i = link.inside in omega arith) link.span))) in
-          subst (λ (k : ℕ). HasWalk (own_graph h) (slice_index h.shape.value.order b) (slice_index h.shape.value.order a) k) link.long
-          (subst (λ (z : ℕ). HasWalk (own_graph h) (slice_index h.shape.value.order z) (slice_index h.shape.value.order a) (slice_index h.down.length link.place)) link.leads walk));
+          let walk : HasWalk (own_graph h) (slice_index h.shape.order (slice_index h.down.head link.place)) (slice_index h.shape.order a) (slice_index h.down.length link.place) =
+          HasWalk-row (own_graph h) (turned (link_row h.shape.order h.down a link.place))
+          (Contains-append_right (link_rows h.shape.order h.up) (map turned (link_rows h.shape.order h.down)) (turned (link_row h.shape.order h.down a link.place))
+          (Contains-turned (link_rows h.shape.order h.down) (link_row h.shape.order h.down a link.place)
+          (runs_have h.shape.order h.down (length h.shape.order) 0 a link.place (omega arith) (let i = link.inside in omega arith) link.span))) in
+          subst (λ (k : ℕ). HasWalk (own_graph h) (slice_index h.shape.order b) (slice_index h.shape.order a) k) link.long
+          (subst (λ (z : ℕ). HasWalk (own_graph h) (slice_index h.shape.order z) (slice_index h.shape.order a) (slice_index h.down.length link.place)) link.leads walk));
     }
 
 -- a link as an arc
@@ -100,13 +100,13 @@ abbrev row_between : List ℕ → ℕ → ℕ → ℕ → ArcRow
 row_between order a b x = record { tail = slice_index order a; head = slice_index order b; length = x }
 
 -- what holds of each link holds of each arc of that graph
-own_rows : (h : Hierarchy) (P : ArcRow → Type 0) → ((k : ℕ) → slice_index h.up.length k < no_link) → ((k : ℕ) → slice_index h.down.length k < no_link) → ((a b x : ℕ) → links_of (length h.shape.value.order) h.up a b x → P (row_between h.shape.value.order a b x)) → ((a b x : ℕ) → links_of (length h.shape.value.order) h.down a b x → P (row_between h.shape.value.order b a x)) → All P (rows_of (own_graph h))
+own_rows : (h : Parts) (P : ArcRow → Type 0) → ((k : ℕ) → slice_index h.up.length k < no_link) → ((k : ℕ) → slice_index h.down.length k < no_link) → ((a b x : ℕ) → links_of (length h.shape.order) h.up a b x → P (row_between h.shape.order a b x)) → ((a b x : ℕ) → links_of (length h.shape.order) h.down a b x → P (row_between h.shape.order b a x)) → All P (rows_of (own_graph h))
 own_rows h P short_up short_down up down =
-    All-append P (link_rows h.shape.value.order h.up) (map turned (link_rows h.shape.value.order h.down))
-    (rows_of_runs P h.shape.value.order h.up (length h.shape.value.order) 0
+    All-append P (link_rows h.shape.order h.up) (map turned (link_rows h.shape.order h.down))
+    (rows_of_runs P h.shape.order h.up (length h.shape.order) 0
     (λ a k late early span. up a (slice_index h.up.head k) (slice_index h.up.length k) (record { place = k; inside = omega arith; span = span; leads = refl; long = refl; real = short_up k })))
-    (All-map P turned (link_rows h.shape.value.order h.down)
-    (rows_of_runs (λ (r : ArcRow). P (turned r)) h.shape.value.order h.down (length h.shape.value.order) 0
+    (All-map P turned (link_rows h.shape.order h.down)
+    (rows_of_runs (λ (r : ArcRow). P (turned r)) h.shape.order h.down (length h.shape.order) 0
     (λ a k late early span. down a (slice_index h.down.head k) (slice_index h.down.length k) (record { place = k; inside = omega arith; span = span; leads = refl; long = refl; real = short_down k }))))
 
 -- a walk over arcs that are walks of g is one of g
@@ -246,21 +246,21 @@ AreShortest-copied g o name rank U D c shortest =
     }
 
 -- the facts of a hierarchy by the number of its ranks
-record Parts (g : Graph) (h : Hierarchy) (n : ℕ) : Type 0 where
+record Facts (g : Graph) (h : Parts) (n : ℕ) : Type 0 where
   is : n ≡ g.vertices
-  ranked : IsRanked n h.shape.value.order h.shape.value.rank
-  shape : IsShape n h.shape.value.first h.shape.value.head
-  up : AreLinks n h.shape.value.first h.shape.value.head h.up
-  down : AreLinks n h.shape.value.first h.shape.value.head h.down
-  sound : IsSound g (slice_index h.shape.value.order) (links_of n h.up) (links_of n h.down)
-  hills : HasHills no_link g (slice_index h.shape.value.rank) (links_of n h.up) (links_of n h.down)
-  shortest : AreShortest g (slice_index h.shape.value.rank) (links_of n h.up) (links_of n h.down)
-  dists : HasHillDists no_link g (slice_index h.shape.value.rank) (links_of n h.up) (links_of n h.down)
+  ranked : IsRanked n h.shape.order h.shape.rank
+  shape : IsShape n h.shape.first h.shape.head
+  up : AreLinks n h.shape.first h.shape.head h.up
+  down : AreLinks n h.shape.first h.shape.head h.down
+  sound : IsSound g (slice_index h.shape.order) (links_of n h.up) (links_of n h.down)
+  hills : HasHills no_link g (slice_index h.shape.rank) (links_of n h.up) (links_of n h.down)
+  shortest : AreShortest g (slice_index h.shape.rank) (links_of n h.up) (links_of n h.down)
+  dists : HasHillDists no_link g (slice_index h.shape.rank) (links_of n h.up) (links_of n h.down)
 
-parts_of : (g : Graph) (h : Hierarchy) → IsBuilt g h → Parts g h (length h.shape.value.order)
-parts_of g h b =
+facts_of : (g : Graph) (h : Parts) → IsBuilt g h → Facts g h (length h.shape.order)
+facts_of g h b =
     let whole : IsHierarchy g h = b.hierarchy in
-    let all : Parts g h g.vertices = record {
+    let all : Facts g h g.vertices = record {
       is = refl;
       ranked = whole.shape.ranked;
       shape = whole.shape.shape;
@@ -271,7 +271,7 @@ parts_of g h b =
       shortest = whole.shortest;
       dists = whole.dists;
     } in
-    subst (λ (n : ℕ). Parts g h n) (sym whole.shape.ranked.order_size) all
+    subst (λ (n : ℕ). Facts g h n) (sym whole.shape.ranked.order_size) all
 
 -- the two ranks of a link
 record IsOver (n : ℕ) (first head : List ℕ) (a b : ℕ) : Type 0 where
@@ -302,27 +302,27 @@ apart n order rank a b ranked lt inside same =
     let e : a ≡ b = sym at_a ∙ ap (λ (x : ℕ). slice_index rank x) same ∙ at_b in
     omega arith
 
-IsGraph-own : (g : Graph) (h : Hierarchy) → IsGraph g → Parts g h (length h.shape.value.order) → IsGraph (own_graph h)
+IsGraph-own : (g : Graph) (h : Parts) → IsGraph g → Facts g h (length h.shape.order) → IsGraph (own_graph h)
 IsGraph-own g h sound c =
-    own_rows h (IsArc (length h.shape.value.order)) c.up.short c.down.short
+    own_rows h (IsArc (length h.shape.order)) c.up.short c.down.short
     (λ a b x link.
-    let over = is_over (length h.shape.value.order) h.shape.value.first h.shape.value.head h.up a b x c.shape c.up link in
-    let walk : HasWalk g (slice_index h.shape.value.order a) (slice_index h.shape.value.order b) x = c.sound.up a b x link in
+    let over = is_over (length h.shape.order) h.shape.first h.shape.head h.up a b x c.shape c.up link in
+    let walk : HasWalk g (slice_index h.shape.order a) (slice_index h.shape.order b) x = c.sound.up a b x link in
     let long = walk.long in
-    let some : 1 ≤ walk_length g walk.path = walk_long g walk.path (slice_index h.shape.value.order a) (slice_index h.shape.value.order b) sound walk.walk (apart (length h.shape.value.order) h.shape.value.order h.shape.value.rank a b c.ranked over.rises over.inside) in
+    let some : 1 ≤ walk_length g walk.path = walk_long g walk.path (slice_index h.shape.order a) (slice_index h.shape.order b) sound walk.walk (apart (length h.shape.order) h.shape.order h.shape.rank a b c.ranked over.rises over.inside) in
     record {
-      tail = (named (length h.shape.value.order) h.shape.value.order h.shape.value.rank a c.ranked link.inside).vertex;
-      head = (named (length h.shape.value.order) h.shape.value.order h.shape.value.rank b c.ranked over.inside).vertex;
+      tail = (named (length h.shape.order) h.shape.order h.shape.rank a c.ranked link.inside).vertex;
+      head = (named (length h.shape.order) h.shape.order h.shape.rank b c.ranked over.inside).vertex;
       positive = omega arith;
     })
     (λ a b x link.
-    let over = is_over (length h.shape.value.order) h.shape.value.first h.shape.value.head h.down a b x c.shape c.down link in
-    let walk : HasWalk g (slice_index h.shape.value.order b) (slice_index h.shape.value.order a) x = c.sound.down a b x link in
+    let over = is_over (length h.shape.order) h.shape.first h.shape.head h.down a b x c.shape c.down link in
+    let walk : HasWalk g (slice_index h.shape.order b) (slice_index h.shape.order a) x = c.sound.down a b x link in
     let long = walk.long in
-    let some : 1 ≤ walk_length g walk.path = walk_long g walk.path (slice_index h.shape.value.order b) (slice_index h.shape.value.order a) sound walk.walk (λ e. apart (length h.shape.value.order) h.shape.value.order h.shape.value.rank a b c.ranked over.rises over.inside (sym e)) in
+    let some : 1 ≤ walk_length g walk.path = walk_long g walk.path (slice_index h.shape.order b) (slice_index h.shape.order a) sound walk.walk (λ e. apart (length h.shape.order) h.shape.order h.shape.rank a b c.ranked over.rises over.inside (sym e)) in
     record {
-      tail = (named (length h.shape.value.order) h.shape.value.order h.shape.value.rank b c.ranked over.inside).vertex;
-      head = (named (length h.shape.value.order) h.shape.value.order h.shape.value.rank a c.ranked link.inside).vertex;
+      tail = (named (length h.shape.order) h.shape.order h.shape.rank b c.ranked over.inside).vertex;
+      head = (named (length h.shape.order) h.shape.order h.shape.rank a c.ranked link.inside).vertex;
       positive = omega arith;
     })
 
@@ -347,20 +347,20 @@ placed_down n order rank first head a b x ranked inside over =
       fall = (λ low. subst (λ (y : ℕ). IsUp first head y (slice_index rank (slice_index order b))) (sym at_a) (subst (λ (y : ℕ). IsUp first head a y) (sym at_b) over.under));
     }
 
-IsShapeOf-own : (g : Graph) (h : Hierarchy) → Parts g h (length h.shape.value.order) → IsShapeOf (own_graph h) h.shape.value
+IsShapeOf-own : (g : Graph) (h : Parts) → Facts g h (length h.shape.order) → IsShapeOf (own_graph h) h.shape
 IsShapeOf-own g h c =
     record {
       ranked = c.ranked;
       shape = c.shape;
       placed =
-          own_rows h (IsPlaced h.shape.value.rank h.shape.value.first h.shape.value.head) c.up.short c.down.short
-          (λ a b x link. placed_up (length h.shape.value.order) h.shape.value.order h.shape.value.rank h.shape.value.first h.shape.value.head a b x c.ranked link.inside
-          (is_over (length h.shape.value.order) h.shape.value.first h.shape.value.head h.up a b x c.shape c.up link))
-          (λ a b x link. placed_down (length h.shape.value.order) h.shape.value.order h.shape.value.rank h.shape.value.first h.shape.value.head a b x c.ranked link.inside
-          (is_over (length h.shape.value.order) h.shape.value.first h.shape.value.head h.down a b x c.shape c.down link));
+          own_rows h (IsPlaced h.shape.rank h.shape.first h.shape.head) c.up.short c.down.short
+          (λ a b x link. placed_up (length h.shape.order) h.shape.order h.shape.rank h.shape.first h.shape.head a b x c.ranked link.inside
+          (is_over (length h.shape.order) h.shape.first h.shape.head h.up a b x c.shape c.up link))
+          (λ a b x link. placed_down (length h.shape.order) h.shape.order h.shape.rank h.shape.first h.shape.head a b x c.ranked link.inside
+          (is_over (length h.shape.order) h.shape.first h.shape.head h.down a b x c.shape c.down link));
     }
 
-Copies-own : (g : Graph) (h : Hierarchy) → IsGraph g → DistsBelow g no_link → Parts g h (length h.shape.value.order) → Copies g (own_graph h) (slice_index h.shape.value.order) (slice_index h.shape.value.rank) (links_of (length h.shape.value.order) h.up) (links_of (length h.shape.value.order) h.down)
+Copies-own : (g : Graph) (h : Parts) → IsGraph g → DistsBelow g no_link → Facts g h (length h.shape.order) → Copies g (own_graph h) (slice_index h.shape.order) (slice_index h.shape.rank) (links_of (length h.shape.order) h.up) (links_of (length h.shape.order) h.down)
 Copies-own g h sound below c =
     record {
       vertices = c.is;
@@ -374,19 +374,31 @@ Copies-own g h sound below c =
       walks = walk_of_walks g (own_graph h) (own_rows h (λ (r : ArcRow). HasWalk g r.tail r.head r.length) c.up.short c.down.short c.sound.up c.sound.down);
     }
 
-pub HaveSameDist-own : (g : Graph) (h : Hierarchy) → IsGraph g → IsBuilt g h → HaveSameDist g (own_graph h)
+pub HaveSameDist-own : (g : Graph) (h : Parts) → IsGraph g → IsBuilt g h → HaveSameDist g (own_graph h)
 HaveSameDist-own g h sound b =
-    HaveSameDist-copied g (own_graph h) (slice_index h.shape.value.order) (slice_index h.shape.value.rank) (links_of (length h.shape.value.order) h.up) (links_of (length h.shape.value.order) h.down)
-    (Copies-own g h sound b.below (parts_of g h b))
+    HaveSameDist-copied g (own_graph h) (slice_index h.shape.order) (slice_index h.shape.rank) (links_of (length h.shape.order) h.up) (links_of (length h.shape.order) h.down)
+    (Copies-own g h sound b.below (facts_of g h b))
 
-pub IsHierarchy-own : (g : Graph) (h : Hierarchy) → IsGraph g → IsBuilt g h → IsHierarchy (own_graph h) h
+IsHierarchy-own : (g : Graph) (h : Parts) → IsGraph g → IsBuilt g h → IsHierarchy (own_graph h) h
 IsHierarchy-own g h sound b =
-    let parts : Parts g h (length h.shape.value.order) = parts_of g h b in
-    let copies = Copies-own g h sound b.below parts in
+    let facts : Facts g h (length h.shape.order) = facts_of g h b in
+    let copies = Copies-own g h sound b.below facts in
     record {
-      shape = IsShapeOf-own g h parts;
-      up = parts.up;
-      down = parts.down;
-      shortest = AreShortest-copied g (own_graph h) (slice_index h.shape.value.order) (slice_index h.shape.value.rank) (links_of (length h.shape.value.order) h.up) (links_of (length h.shape.value.order) h.down) copies parts.shortest;
-      dists = HasHillDists-copied g (own_graph h) (slice_index h.shape.value.order) (slice_index h.shape.value.rank) (links_of (length h.shape.value.order) h.up) (links_of (length h.shape.value.order) h.down) copies;
+      shape = IsShapeOf-own g h facts;
+      up = facts.up;
+      down = facts.down;
+      shortest = AreShortest-copied g (own_graph h) (slice_index h.shape.order) (slice_index h.shape.rank) (links_of (length h.shape.order) h.up) (links_of (length h.shape.order) h.down) copies facts.shortest;
+      dists = HasHillDists-copied g (own_graph h) (slice_index h.shape.order) (slice_index h.shape.rank) (links_of (length h.shape.order) h.up) (links_of (length h.shape.order) h.down) copies;
+    }
+
+pub IsOwn-built : (g : Graph) (h : Parts) → IsGraph g → g.vertices < 2 ^ 32 → IsBuilt g h → IsOwn h
+IsOwn-built g h sound few b =
+    let facts : Facts g h (length h.shape.order) = facts_of g h b in
+    let size = b.hierarchy.shape.ranked.order_size in
+    record {
+      few = omega arith;
+      graph = IsGraph-own g h sound facts;
+      short = own_rows h (λ (r : ArcRow). r.length < no_link) facts.up.short facts.down.short (λ a b x link. link.real) (λ a b x link. link.real);
+      near = DistsBelow-copied g (own_graph h) (slice_index h.shape.order) (slice_index h.shape.rank) (links_of (length h.shape.order) h.up) (links_of (length h.shape.order) h.down) (Copies-own g h sound b.below facts);
+      hierarchy = IsHierarchy-own g h sound b;
     }

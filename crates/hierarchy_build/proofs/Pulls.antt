@@ -6,7 +6,7 @@ use Rattle.road_model.specs.Dist.{HasWalk}
 use Rattle.hierarchy_build.specs.Runs.{InSpan, IsShape, IsAcross}
 use Rattle.hierarchy_build.specs.Lengths.{no_link, CanPush, AreWalks, Falls, Keeps, Pulls, IsBeaten, AreBeaten, RunIsBeaten}
 use Rattle.hierarchy_build.proofs.Hills.{HasWalk-joined}
-use Rattle.hierarchy_build.proofs.Runs.{one_place, place_inside, head_inside, behind_run, across_rises}
+use Rattle.hierarchy_build.proofs.Runs.{one_place, place_inside, head_inside, beyond_run, across_rises}
 use Rattle.hierarchy_build.proofs.Pushes.{lowered, lowered_at, lowered_falls, rise_lowered_to, fall_lowered_to, Falls-joined, Keeps-itself, Keeps-joined, Keeps-from, CanPush-kept}
 
 -- a triangle of v: the places i and j of its run, and x, which joins their ranks
@@ -70,7 +70,7 @@ Pulls-joined n first head v up down a b c d h k =
 
 -- the place that joins two of the run of v lies past it
 pub across_late : (n : ℕ) (first head : List ℕ) (v i j x : ℕ) → IsShape n first head → v < n → InSpan first v i → IsAcross first head i j x → slice_index first (v + 1) ≤ x
-across_late n first head v i j x s is_v at across = omega (arith, behind_run n first head v i s is_v at, across.span.low)
+across_late n first head v i j x s is_v at across = omega (arith, beyond_run n first head v i s is_v at, across.span.low)
 
 pub IsBeaten-kept : (n : ℕ) (first head : List ℕ) (v : ℕ) (up down a b c d : List ℕ) (i j x : ℕ) → Pulls n first head v a b c d → slice_index first (v + 1) ≤ x → IsBeaten up down a b i j x → IsBeaten up down c d i j x
 IsBeaten-kept n first head v up down a b c d i j x p late h =

@@ -7,7 +7,7 @@ use Rattle.road_model.specs.Dist.{HasWalk}
 use Rattle.hierarchy_build.specs.Runs.{InSpan, IsShape, IsAcross}
 use Rattle.hierarchy_build.specs.Lengths.{no_link, CanPush, AreWalks, Falls, Keeps, IsTight}
 use Rattle.hierarchy_build.proofs.Hills.{HasWalk-joined, same_or_other}
-use Rattle.hierarchy_build.proofs.Runs.{one_run, place_inside, head_inside, behind_run, across_rises, one_place}
+use Rattle.hierarchy_build.proofs.Runs.{one_run, place_inside, head_inside, beyond_run, across_rises, one_place}
 
 pub Falls-itself : (from : ℕ) (xs : List ℕ) → Falls from xs xs
 Falls-itself from xs = record { size = refl; same = (λ k lt. refl); falls = (λ k. omega arith) }
@@ -165,7 +165,7 @@ pub Keeps-lowered : (n : ℕ) (first head up down : List ℕ) (v i j k : ℕ) �
 Keeps-lowered n first head up down v i j k can is_v at_i at_j across =
     let inside : slice_index head i < n = head_inside n first head v i can.shape is_v at_i in
     let place : k < length head = place_inside n first head (slice_index head i) k can.shape inside across.span in
-    let behind : slice_index first (v + 1) ≤ slice_index first (slice_index head i) = behind_run n first head v i can.shape is_v at_i in
+    let beyond : slice_index first (v + 1) ≤ slice_index first (slice_index head i) = beyond_run n first head v i can.shape is_v at_i in
     let late : slice_index first (v + 1) ≤ k = omega (arith, across.span.low) in
     let there : k < length up = omega (arith, can.lengths.up_size) in
     let there' : k < length down = omega (arith, can.lengths.down_size) in
@@ -203,7 +203,7 @@ IsTight-lowered n first head up down v i j k can is_v at_i at_j across =
 
 -- the row of the place i in the run of v, before the place j
 pub record RowSoFar (n : ℕ) (first head up down up' down' : List ℕ) (v i j at : ℕ) : Type 0 where
-  pub behind : slice_index first (slice_index head i) ≤ at
+  pub beyond : slice_index first (slice_index head i) ≤ at
   pub next : (b c : ℕ) → j ≤ b → InSpan first v b → IsAcross first head i b c → at ≤ c
   pub keeps : Keeps n first head (slice_index first (v + 1)) up down up' down'
   pub tight : (b c : ℕ) → b < j → i < b → InSpan first v b → IsAcross first head i b c → IsTight up' down' i b c
@@ -211,7 +211,7 @@ pub record RowSoFar (n : ℕ) (first head up down up' down' : List ℕ) (v i j a
 pub RowSoFar-none : (n : ℕ) (first head up down : List ℕ) (v i at : ℕ) → at ≡ slice_index first (slice_index head i) → RowSoFar n first head up down up down v i (i + 1) at
 RowSoFar-none n first head up down v i at is =
     record {
-      behind = omega arith;
+      beyond = omega arith;
       next = (λ b c le span across. omega (arith, across.span.low));
       keeps = Keeps-itself n first head (slice_index first (v + 1)) up down;
       tight = (λ b c lt gt span across. absurd (omega arith));
@@ -224,7 +224,7 @@ RowSoFar-more n first head up down up' down' v i j at k can is_v at_i at_j lt ro
     let tight = IsTight-lowered n first head up' down' v i j k can' is_v at_i at_j across in
     let inside : slice_index head i < n = head_inside n first head v i can.shape is_v at_i in
     record {
-      behind = omega (arith, across.span.low);
+      beyond = omega (arith, across.span.low);
       next = (λ b c le span over. across_rises n first head v i j b k c can.shape is_v at_i at_j span (omega arith) across over);
       keeps = Keeps-joined n first head (slice_index first (v + 1)) up down up' down' (lowered up' k (slice_index down' i + slice_index up' j)) (lowered down' k (slice_index down' j + slice_index up' i)) row.keeps more;
       tight = (λ b c low gt span over.

@@ -62,8 +62,8 @@ pub head_inside : (n : ℕ) (first head : List ℕ) (v k : ℕ) → IsShape n fi
 head_inside n first head v k s is_v a = s.within k (place_inside n first head v k s is_v a)
 
 -- the run of a higher neighbour comes later
-pub behind_run : (n : ℕ) (first head : List ℕ) (v i : ℕ) → IsShape n first head → v < n → InSpan first v i → slice_index first (v + 1) ≤ slice_index first (slice_index head i)
-behind_run n first head v i s is_v a =
+pub beyond_run : (n : ℕ) (first head : List ℕ) (v i : ℕ) → IsShape n first head → v < n → InSpan first v i → slice_index first (v + 1) ≤ slice_index first (slice_index head i)
+beyond_run n first head v i s is_v a =
     let above : v < slice_index head i = s.above v i is_v a in
     let inside : slice_index head i < n = head_inside n first head v i s is_v a in
     s.rising (v + 1) (slice_index head i) (omega arith) (omega arith)
@@ -81,7 +81,7 @@ place_across n first head v i j at s is_v a b lt next =
     }
 
 pub across_found : (n : ℕ) (first head : List ℕ) (v i j at k : ℕ) → IsShape n first head → v < n → InSpan first v i → InSpan first v j → i < j → slice_index first (slice_index head i) ≤ at → at ≤ k → slice_index head k ≡ slice_index head j → ((c : ℕ) → at ≤ c → slice_index head c ≡ slice_index head j → k ≤ c) → ((c : ℕ) → IsAcross first head i j c → at ≤ c) → IsAcross first head i j k
-across_found n first head v i j at k s is_v a b lt behind late found earliest next =
+across_found n first head v i j at k s is_v a b lt beyond late found earliest next =
     let there : IsUp first head (slice_index head i) (slice_index head j) = s.chordal v i j is_v a b lt in
     let across : IsAcross first head i j there.place = record { span = there.span; is = there.is } in
     let low : k ≤ there.place = earliest there.place (next there.place across) there.is in

@@ -9,7 +9,7 @@ use Rattle.road_model.specs.Dist.{HasWalk, DistsBelow}
 use Rattle.road_model.specs.File.{IsWithinLimits}
 use Rattle.forward_star.proofs.Bound.{dists_below}
 use Rattle.hierarchy_build.specs.declared.shape.Shape.{Shape}
-use Rattle.hierarchy_build.specs.declared.hierarchy.Hierarchy.{Hierarchy}
+use Rattle.hierarchy_build.specs.Parts.{Parts}
 use Rattle.hierarchy_build.specs.Hills.{Within, HasTriangles, IsSound, Covers, HasHills}
 use Rattle.hierarchy_build.specs.Runs.{InSpan, IsUp, IsShape, IsAcross, IsRanked}
 use Rattle.hierarchy_build.specs.Lengths.{no_link, LinkAt, CanPush, AreWalks, IsWithin, AreSpelled, IsCovered, KeepsArcs, IsTight, AreTight, Keeps, AreBeaten}
@@ -207,24 +207,24 @@ CanPush-read g s n first head u d is_n is_first is_head is_u is_d shape =
     (subst (λ (x : List ℕ). CanPush g.vertices s.first s.head (replicate (length s.head) no_link) x) (sym is_d) (CanPush-fresh g.vertices s.first s.head shape.shape)))))
 
 -- what was shown of a hierarchy while it was built
-pub record IsBuilt (g : Graph) (h : Hierarchy) : Type 0 where
+pub record IsBuilt (g : Graph) (h : Parts) : Type 0 where
   pub hierarchy : IsHierarchy g h
-  pub sound : IsSound g (slice_index h.shape.value.order) (links_of g.vertices h.up) (links_of g.vertices h.down)
-  pub hills : HasHills no_link g (slice_index h.shape.value.rank) (links_of g.vertices h.up) (links_of g.vertices h.down)
+  pub sound : IsSound g (slice_index h.shape.order) (links_of g.vertices h.up) (links_of g.vertices h.down)
+  pub hills : HasHills no_link g (slice_index h.shape.rank) (links_of g.vertices h.up) (links_of g.vertices h.down)
   pub below : DistsBelow g no_link
 
 -- the links that are kept of these
-pub IsBuilt-kept : (g : Graph) (h : Hierarchy) (up down best_up best_down : List ℕ) → IsShapeOf g h.shape.value → HasLengths g h.shape.value up down → Keeps g.vertices h.shape.value.first h.shape.value.head 0 up down best_up best_down → AreBeaten g.vertices h.shape.value.first h.shape.value.head 0 up down best_up best_down → AreKept g.vertices h.shape.value.first h.shape.value.head up best_up h.up → AreKept g.vertices h.shape.value.first h.shape.value.head down best_down h.down → IsBuilt g h
+pub IsBuilt-kept : (g : Graph) (h : Parts) (up down best_up best_down : List ℕ) → IsShapeOf g h.shape → HasLengths g h.shape up down → Keeps g.vertices h.shape.first h.shape.head 0 up down best_up best_down → AreBeaten g.vertices h.shape.first h.shape.head 0 up down best_up best_down → AreKept g.vertices h.shape.first h.shape.head up best_up h.up → AreKept g.vertices h.shape.first h.shape.head down best_down h.down → IsBuilt g h
 IsBuilt-kept g h up down best_up best_down is lengths best beaten kept_up kept_down =
-    let s : Shape = h.shape.value in
-    let name : ℕ → ℕ = slice_index h.shape.value.order in
-    let rank : ℕ → ℕ = slice_index h.shape.value.rank in
-    let U : ℕ → ℕ → ℕ → Type 0 = LinkAt g.vertices h.shape.value.first h.shape.value.head up in
-    let D : ℕ → ℕ → ℕ → Type 0 = LinkAt g.vertices h.shape.value.first h.shape.value.head down in
-    let full : IsSound g (slice_index h.shape.value.order) (LinkAt g.vertices h.shape.value.first h.shape.value.head up) (LinkAt g.vertices h.shape.value.first h.shape.value.head down) = sound g s.order g.vertices s.first s.head up down lengths.walks in
+    let s : Shape = h.shape in
+    let name : ℕ → ℕ = slice_index h.shape.order in
+    let rank : ℕ → ℕ = slice_index h.shape.rank in
+    let U : ℕ → ℕ → ℕ → Type 0 = LinkAt g.vertices h.shape.first h.shape.head up in
+    let D : ℕ → ℕ → ℕ → Type 0 = LinkAt g.vertices h.shape.first h.shape.head down in
+    let full : IsSound g (slice_index h.shape.order) (LinkAt g.vertices h.shape.first h.shape.head up) (LinkAt g.vertices h.shape.first h.shape.head down) = sound g s.order g.vertices s.first s.head up down lengths.walks in
     let thins = Thins-kept g s.order g.vertices s.first s.head up down best_up best_down h.up h.down best.rise best.fall (best.walks g s.order lengths.walks) kept_up kept_down in
-    let kept : IsSound g (slice_index h.shape.value.order) (links_of g.vertices h.up) (links_of g.vertices h.down) = IsSound-thinned g name U D (links_of g.vertices h.up) (links_of g.vertices h.down) full thins in
-    let hills : HasHills no_link g (slice_index h.shape.value.rank) (links_of g.vertices h.up) (links_of g.vertices h.down) = HasHills-thinned no_link g name rank U D (links_of g.vertices h.up) (links_of g.vertices h.down) is.ranked.back lengths.hills full thins in
+    let kept : IsSound g (slice_index h.shape.order) (links_of g.vertices h.up) (links_of g.vertices h.down) = IsSound-thinned g name U D (links_of g.vertices h.up) (links_of g.vertices h.down) full thins in
+    let hills : HasHills no_link g (slice_index h.shape.rank) (links_of g.vertices h.up) (links_of g.vertices h.down) = HasHills-thinned no_link g name rank U D (links_of g.vertices h.up) (links_of g.vertices h.down) is.ranked.back lengths.hills full thins in
     let whole : IsHierarchy g h = record {
       shape = is;
       up = kept_up.links;
@@ -235,17 +235,17 @@ IsBuilt-kept g h up down best_up best_down is lengths best beaten kept_up kept_d
     record { hierarchy = whole; sound = kept; hills = hills; below = lengths.below }
 
 -- by what the code read
-pub IsBuilt-read : (g : Graph) (h : Hierarchy) (a b c d : Shape) (up down best_up best_down : List ℕ) → a ≡ h.shape.value → b ≡ h.shape.value → c ≡ h.shape.value → d ≡ h.shape.value → IsShapeOf g h.shape.value → HasLengths g a up down → Keeps (length b.order) b.first b.head 0 up down best_up best_down → AreBeaten (length b.order) b.first b.head 0 up down best_up best_down → AreKept (length c.order) c.first c.head up best_up h.up → AreKept (length d.order) d.first d.head down best_down h.down → IsBuilt g h
+pub IsBuilt-read : (g : Graph) (h : Parts) (a b c d : Shape) (up down best_up best_down : List ℕ) → a ≡ h.shape → b ≡ h.shape → c ≡ h.shape → d ≡ h.shape → IsShapeOf g h.shape → HasLengths g a up down → Keeps (length b.order) b.first b.head 0 up down best_up best_down → AreBeaten (length b.order) b.first b.head 0 up down best_up best_down → AreKept (length c.order) c.first c.head up best_up h.up → AreKept (length d.order) d.first d.head down best_down h.down → IsBuilt g h
 IsBuilt-read g h a b c d up down best_up best_down is_a is_b is_c is_d is lengths best beaten kept_up kept_down =
     IsBuilt-kept g h up down best_up best_down is
     (subst (λ (s : Shape). HasLengths g s up down) is_a lengths)
-    (subst (λ (n : ℕ). Keeps n h.shape.value.first h.shape.value.head 0 up down best_up best_down) is.ranked.order_size
+    (subst (λ (n : ℕ). Keeps n h.shape.first h.shape.head 0 up down best_up best_down) is.ranked.order_size
     (subst (λ (s : Shape). Keeps (length s.order) s.first s.head 0 up down best_up best_down) is_b best))
-    (subst (λ (n : ℕ). AreBeaten n h.shape.value.first h.shape.value.head 0 up down best_up best_down) is.ranked.order_size
+    (subst (λ (n : ℕ). AreBeaten n h.shape.first h.shape.head 0 up down best_up best_down) is.ranked.order_size
     (subst (λ (s : Shape). AreBeaten (length s.order) s.first s.head 0 up down best_up best_down) is_b beaten))
-    (subst (λ (n : ℕ). AreKept n h.shape.value.first h.shape.value.head up best_up h.up) is.ranked.order_size
+    (subst (λ (n : ℕ). AreKept n h.shape.first h.shape.head up best_up h.up) is.ranked.order_size
     (subst (λ (s : Shape). AreKept (length s.order) s.first s.head up best_up h.up) is_c kept_up))
-    (subst (λ (n : ℕ). AreKept n h.shape.value.first h.shape.value.head down best_down h.down) is.ranked.order_size
+    (subst (λ (n : ℕ). AreKept n h.shape.first h.shape.head down best_down h.down) is.ranked.order_size
     (subst (λ (s : Shape). AreKept (length s.order) s.first s.head down best_down h.down) is_d kept_down))
 
 -- the shape that was laid out

@@ -11,7 +11,7 @@ use Rattle.road_model.specs.declared.rows.ArcRow.{ArcRow}
 use Rattle.road_model.specs.Graph.{Graph, rows_of}
 use Rattle.road_model.specs.Dist.{DistsBelow}
 use Rattle.hierarchy_build.specs.declared.shape.Shape.{Shape}
-use Rattle.hierarchy_build.specs.declared.hierarchy.Hierarchy.{Hierarchy}
+use Rattle.hierarchy_build.specs.Parts.{Parts}
 use Rattle.hierarchy_build.specs.Hills.{AreShortest, HasHills, HasHillDists}
 use Rattle.hierarchy_build.specs.Runs.{IsShape, IsRanked, IsPlaced}
 use Rattle.hierarchy_build.specs.Lengths.{no_link, LinkAt, AreLengths, AreWalks}
@@ -34,9 +34,9 @@ pub record HasLengths (g : Graph) (s : Shape) (up down : List ℕ) : Type 0 wher
   pub below : DistsBelow g no_link
   pub hills : HasHills no_link g (slice_index s.rank) (LinkAt g.vertices s.first s.head up) (LinkAt g.vertices s.first s.head down)
 
-pub record IsHierarchy (g : Graph) (h : Hierarchy) : Type 0 where
-  pub shape : IsShapeOf g h.shape.value
-  pub up : AreLinks g.vertices h.shape.value.first h.shape.value.head h.up
-  pub down : AreLinks g.vertices h.shape.value.first h.shape.value.head h.down
-  pub shortest : AreShortest g (slice_index h.shape.value.rank) (links_of g.vertices h.up) (links_of g.vertices h.down)
-  pub dists : HasHillDists no_link g (slice_index h.shape.value.rank) (links_of g.vertices h.up) (links_of g.vertices h.down)
+pub record IsHierarchy (g : Graph) (h : Parts) : Type 0 where
+  pub shape : IsShapeOf g h.shape
+  pub up : AreLinks g.vertices h.shape.first h.shape.head h.up
+  pub down : AreLinks g.vertices h.shape.first h.shape.head h.down
+  pub shortest : AreShortest g (slice_index h.shape.rank) (links_of g.vertices h.up) (links_of g.vertices h.down)
+  pub dists : HasHillDists no_link g (slice_index h.shape.rank) (links_of g.vertices h.up) (links_of g.vertices h.down)

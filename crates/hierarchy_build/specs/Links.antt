@@ -18,6 +18,7 @@ links_of n l = LinkAt n l.first l.head l.length
 
 pub record AreLinks (n : ℕ) (first head : List ℕ) (l : Links) : Type 0 where
   pub size : length l.first ≡ n + 1
+  pub begin : slice_index l.first 0 ≡ 0
   pub end : slice_index l.first n ≡ length l.head
   pub even : length l.length ≡ length l.head
   pub rising : (v w : ℕ) → v ≤ w → w ≤ n → slice_index l.first v ≤ slice_index l.first w
@@ -53,6 +54,7 @@ pub record IsAdded (head full thinned : List ℕ) (from to : ℕ) (old new : Lin
 
 pub record KeptSoFar (n v : ℕ) (first head full thinned : List ℕ) (l : Links) : Type 0 where
   pub size : length l.first ≡ v + 1
+  pub begin : slice_index l.first 0 ≡ 0
   pub end : slice_index l.first v ≡ length l.head
   pub even : length l.length ≡ length l.head
   pub few : length l.head ≤ slice_index first v

@@ -1,11 +1,12 @@
 //! Lengths of links lowered to those of arcs.
 
 ghost use Rattle.std.specs.Prelude.{◌≡◌, ◌<◌, ◌≤◌, ◌+◌, ℕ, length, slice_index, All};
-ghost use Rattle.road_model.specs.Graph.{IsVertex};
+ghost use Rattle.road_model.specs.Graph.{IsVertex, rows_of};
 ghost use Rattle.hierarchy_build.specs.Runs.{IsPlaced};
 ghost use Rattle.hierarchy_build.specs.Lengths.{no_link, CanPush, KeepsArc, KeepsArcs, IsWithin, AreTight};
 
 use crate::push::{lower, place_of, push_triangles};
+use forward_star::Star;
 use road_model::ArcRow;
 
 // Lowers the link between the ends of an arc to its length.
@@ -40,17 +41,18 @@ fn lower_arcs(
     rank: &[u32],
     first: &[u32],
     head: &[u32],
-    arcs: &[ArcRow],
+    star: &Star,
     up: &mut [u64],
     down: &mut [u64],
 )
     requires can { CanPush ranks first.now head.now up.old down.old }
-    requires within { All (IsWithin ranks rank.now) arcs.now }
-    requires placed { All (IsPlaced rank.now first.now head.now) arcs.now }
-    ensures { KeepsArcs ranks rank.now first.now head.now arcs.now up.old down.old up.new down.new }
+    requires within { All (IsWithin ranks rank.now) (rows_of star.now) }
+    requires placed { All (IsPlaced rank.now first.now head.now) (rows_of star.now) }
+    ensures { KeepsArcs ranks rank.now first.now head.now (rows_of star.now) up.old down.old up.new down.new }
 {
-    for arc in arcs {
-        lower_arc(ranks, rank, first, head, *arc, up, down);
+    for place in 0..star.arc_count() as usize {
+        let arc = star.row(place);
+        lower_arc(ranks, rank, first, head, arc, up, down);
     }
 }
 
@@ -60,16 +62,16 @@ pub(crate) fn lower_all(
     rank: &[u32],
     first: &[u32],
     head: &[u32],
-    arcs: &[ArcRow],
+    star: &Star,
     up: &mut [u64],
     down: &mut [u64],
 )
     requires can { CanPush ranks first.now head.now up.old down.old }
-    requires within { All (IsWithin ranks rank.now) arcs.now }
-    requires placed { All (IsPlaced rank.now first.now head.now) arcs.now }
-    ensures arcs { KeepsArcs ranks rank.now first.now head.now arcs.now up.old down.old up.new down.new }
+    requires within { All (IsWithin ranks rank.now) (rows_of star.now) }
+    requires placed { All (IsPlaced rank.now first.now head.now) (rows_of star.now) }
+    ensures arcs { KeepsArcs ranks rank.now first.now head.now (rows_of star.now) up.old down.old up.new down.new }
     ensures tight { AreTight ranks first.now head.now up.new down.new ranks }
 {
-    lower_arcs(ranks, rank, first, head, arcs, up, down);
+    lower_arcs(ranks, rank, first, head, star, up, down);
     push_triangles(ranks, first, head, up, down);
 }

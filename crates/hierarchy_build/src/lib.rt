@@ -4,6 +4,7 @@
 mod base;
 mod hierarchy;
 mod links;
+mod networks;
 mod pending;
 mod pull;
 mod push;
@@ -11,4 +12,5 @@ mod shape;
 
 pub use hierarchy::{Hierarchy, NO_LINK, contract, customise};
 pub use links::Links;
+pub use networks::{Falling, Rising};
 pub use shape::Shape;

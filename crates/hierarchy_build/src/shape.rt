@@ -1,5 +1,5 @@
 ghost use Rattle.std.specs.Prelude.{◌≡◌, ◌<◌, ◌≤◌, ◌+◌, ◌^◌, ℕ, [], length, slice_index, All, Contains, IfOk, OnOk};
-ghost use Rattle.road_model.specs.Graph.{IsArc};
+ghost use Rattle.road_model.specs.Graph.{IsArc, rows_of};
 ghost use Rattle.contraction_order.specs.Order.{IsOrder};
 ghost use Rattle.hierarchy_build.specs.Runs.{IsRanked};
 ghost use Rattle.hierarchy_build.specs.Hierarchy.{IsShapeOf};
@@ -68,16 +68,17 @@ fn wait_arcs(
     alloc: Global,
     order: &[Vertex],
     rank: &[u32],
-    arcs: &[ArcRow],
+    star: &Star,
 ) -> Result<Pending, NoMemory>
     requires ranked { IsRanked (length order.now) order.now rank.now }
-    requires arcs { All (IsArc (length order.now)) arcs.now }
+    requires arcs { All (IsArc (length order.now)) (rows_of star.now) }
     ensures inside { IfOk result (λ p. IsInside (length order.now) p) }
-    ensures due { IfOk result (λ p. All (IsDue 0 rank.now [] [] p) arcs.now) }
+    ensures due { IfOk result (λ p. All (IsDue 0 rank.now [] [] p) (rows_of star.now)) }
 {
     let mut pending = Pending::new(alloc, order.len())?;
-    for arc in arcs {
-        wait_arc(&mut pending, rank, *arc)?;
+    for place in 0..star.arc_count() as usize {
+        let arc = star.row(place);
+        wait_arc(&mut pending, rank, arc)?;
     }
     Ok(pending)
 }
@@ -164,9 +165,9 @@ impl Shape {
         ensures { IfOk result (λ s. IsShapeOf star.now s) }
     {
         let Order { vertices: order } = order;
-        let arcs = star.graph().arcs();
+        star.within_limits();
         let rank = ranks_of(alloc, order.as_slice())?;
-        let pending = wait_arcs(alloc, order.as_slice(), rank.as_slice(), arcs)?;
+        let pending = wait_arcs(alloc, order.as_slice(), rank.as_slice(), star)?;
         let Layout { first, head, .. } = lay_out(alloc, order.len(), pending)?;
         Ok(Shape {
             order,

@@ -4,7 +4,7 @@ use Rattle.std.proofs.Math.ListN.{length-set}
 use Rattle.std.proofs.lemmas.Bool.{cases_lt}
 use Rattle.std.proofs.lemmas.List.{get_or_append_left, get_or-append_right}
 use Rattle.hierarchy_build.specs.declared.links.Links.{Links}
-use Rattle.hierarchy_build.specs.declared.hierarchy.Hierarchy.{Hierarchy}
+use Rattle.hierarchy_build.specs.Parts.{Parts}
 use Rattle.hierarchy_build.specs.Hills.{IsRise, rise_length, HasHill}
 use Rattle.hierarchy_build.specs.Runs.{InSpan, IsUp, IsShape, HasPlace}
 use Rattle.hierarchy_build.specs.Lengths.{no_link}
@@ -12,7 +12,7 @@ use Rattle.hierarchy_build.specs.Links.{links_of}
 use Rattle.hierarchy_build.proofs.Hills.{same_or_other}
 use Rattle.hierarchy_build.proofs.Runs.{head_inside}
 use Rattle.hierarchy_query.specs.Climbs.{CanClimb, IsClimbed, IsLeastHill}
-use Rattle.hierarchy_query.specs.Asks.{CanAsk, up_links, down_links}
+use Rattle.hierarchy_query.specs.Asks.{up_links, down_links}
 use Rattle.hierarchy_query.specs.KnownHills.{IsKnown, AreUnknown, IsLonger, Leads, IsStacked, IsLeastOver, AreLeast}
 use Rattle.hierarchy_query.proofs.Climbs.{over_parent}
 
@@ -290,7 +290,7 @@ known_kept least y z best inside low known =
     (λ (other : z ≢ y). let read : slice_index (set least y best) z ≡ slice_index least z = get_or-set_other least y z best 0 other in let r : slice_index (set least y best) z ≤ no_link = omega arith in r)
     (same_or_other z y)
 
-pub AreLeast-more : (n : ℕ) (h : Hierarchy) (s y place best : ℕ) (rising least found : List ℕ) → CanAsk n h → IsClimbed n h.up s rising → place < length found → slice_index found place ≡ y → ((z : ℕ) → IsUp h.shape.value.first h.shape.value.head y z → IsKnown least z) → IsLeastOver h.down y (slice_index rising y) least best → AreLeast n h s least found → AreLeast n h s (set least y best) found
+pub AreLeast-more : (n : ℕ) (h : Parts) (s y place best : ℕ) (rising least found : List ℕ) → CanClimb n h.shape.first h.shape.head h.down → IsClimbed n h.up s rising → place < length found → slice_index found place ≡ y → ((z : ℕ) → IsUp h.shape.first h.shape.head y z → IsKnown least z) → IsLeastOver h.down y (slice_index rising y) least best → AreLeast n h s least found → AreLeast n h s (set least y best) found
 AreLeast-more n h s y place best rising least found can climbed at is ready over a =
     let size = a.size in
     let listed = a.ranks place at in
@@ -305,10 +305,10 @@ AreLeast-more n h s y place best rising least found can climbed at is ready over
           ⊎_elim
           (λ (same : x ≡ y).
           let hill : IsLeastHill (up_links n h) (down_links n h) s y best =
-          IsLeastHill-over n h.shape.value.first h.shape.value.head h.up h.down s y rising least best can.down inside climbed
+          IsLeastHill-over n h.shape.first h.shape.head h.up h.down s y rising least best can inside climbed
           (λ k span.
-          let up = can.down.links.under y k inside span in
-          let head_in : slice_index h.down.head k < n = (let p = head_inside n h.shape.value.first h.shape.value.head y up.place can.down.shape inside up.span in let e = up.is in omega arith) in
+          let up = can.links.under y k inside span in
+          let head_in : slice_index h.down.head k < n = (let p = head_inside n h.shape.first h.shape.head y up.place can.shape inside up.span in let e = up.is in omega arith) in
           a.exact (slice_index h.down.head k) head_in (ready (slice_index h.down.head k) up)) over in
           subst (λ (d : ℕ). IsLeastHill (up_links n h) (down_links n h) s x d) (sym (written least y x best there same))
           (subst (λ (w : ℕ). IsLeastHill (up_links n h) (down_links n h) s w best) (sym same) hill))
@@ -318,7 +318,7 @@ AreLeast-more n h s y place best rising least found can climbed at is ready over
           (same_or_other x y));
       closed = (λ x z is_x known up.
           ⊎_elim
-          (λ (same : x ≡ y). known_kept least y z best there real (ready z (subst (λ (w : ℕ). IsUp h.shape.value.first h.shape.value.head w z) same up)))
+          (λ (same : x ≡ y). known_kept least y z best there real (ready z (subst (λ (w : ℕ). IsUp h.shape.first h.shape.head w z) same up)))
           (λ (other : x ≢ y).
           let read : slice_index (set least y best) x ≡ slice_index least x = get_or-set_other least y x best 0 other in
           known_kept least y z best there real (a.closed x z is_x (omega arith) up))
@@ -394,7 +394,7 @@ IsKnown-worked_out first head least x from found place end h =
     (cases_lt from (length found))
 
 -- a longer list
-pub AreLeast-longer : (n : ℕ) (h : Hierarchy) (s : ℕ) (least old new : List ℕ) → IsLonger n old new → AreLeast n h s least old → AreLeast n h s least new
+pub AreLeast-longer : (n : ℕ) (h : Parts) (s : ℕ) (least old new : List ℕ) → IsLonger n old new → AreLeast n h s least old → AreLeast n h s least new
 AreLeast-longer n h s least old new longer a =
     let more = longer.more in
     record {
@@ -409,7 +409,7 @@ AreLeast-longer n h s least old new longer a =
     }
 
 -- nothing is known yet
-pub AreLeast-none : (n : ℕ) (h : Hierarchy) (s : ℕ) (least : List ℕ) → AreUnknown n least → AreLeast n h s least []
+pub AreLeast-none : (n : ℕ) (h : Parts) (s : ℕ) (least : List ℕ) → AreUnknown n least → AreLeast n h s least []
 AreLeast-none n h s least u =
     record {
       size = u.size;
@@ -420,10 +420,10 @@ AreLeast-none n h s least u =
     }
 
 -- by what the code read
-pub closed_read : (n : ℕ) (h : Hierarchy) (s : ℕ) (least found first head read : List ℕ) → first ≡ h.shape.value.first → head ≡ h.shape.value.head → read ≡ least → AreLeast n h s least found → (y z : ℕ) → y < length read → IsKnown read y → IsUp first head y z → IsKnown read z
+pub closed_read : (n : ℕ) (h : Parts) (s : ℕ) (least found first head read : List ℕ) → first ≡ h.shape.first → head ≡ h.shape.head → read ≡ least → AreLeast n h s least found → (y z : ℕ) → y < length read → IsKnown read y → IsUp first head y z → IsKnown read z
 closed_read n h s least found first head read is_first is_head is a y z inside known up =
     let size = a.size in
     let long : length read ≡ length least = ap (λ (xs : List ℕ). length xs) is in
     let was : IsKnown least y = subst (λ (xs : List ℕ). IsKnown xs y) is known in
-    let up' : IsUp h.shape.value.first h.shape.value.head y z = subst (λ (xs : List ℕ). IsUp h.shape.value.first xs y z) is_head (subst (λ (xs : List ℕ). IsUp xs head y z) is_first up) in
+    let up' : IsUp h.shape.first h.shape.head y z = subst (λ (xs : List ℕ). IsUp h.shape.first xs y z) is_head (subst (λ (xs : List ℕ). IsUp xs head y z) is_first up) in
     subst (λ (xs : List ℕ). IsKnown xs z) (sym is) (a.closed y z (omega arith) was up')

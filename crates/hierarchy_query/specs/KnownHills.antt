@@ -11,7 +11,7 @@
 --   AreHills n h l       it has the least rise from its rank to each other, and such least hills
 use Rattle.std.specs.Prelude.{◌≡◌, ◌<◌, ◌≤◌, ◌+◌, ◌⊎◌, ℕ, List, length, slice_index}
 use Rattle.hierarchy_build.specs.declared.links.Links.{Links}
-use Rattle.hierarchy_build.specs.declared.hierarchy.Hierarchy.{Hierarchy}
+use Rattle.hierarchy_build.specs.Parts.{Parts}
 use Rattle.hierarchy_build.specs.Runs.{InSpan, IsUp, HasPlace}
 use Rattle.hierarchy_build.specs.Lengths.{no_link}
 use Rattle.hierarchy_query.specs.declared.least_hills.LeastHills.{LeastHills}
@@ -44,14 +44,14 @@ pub record IsLeastOver (l : Links) (x rise : ℕ) (least : List ℕ) (best : ℕ
   pub all : (k : ℕ) → InSpan l.first x k → best ≤ slice_index least (slice_index l.head k) + slice_index l.length k
   pub cases : (best ≡ rise) ⊎ ((k : ℕ) × (InSpan l.first x k) × (best ≡ slice_index least (slice_index l.head k) + slice_index l.length k))
 
-pub record AreLeast (n : ℕ) (h : Hierarchy) (s : ℕ) (least found : List ℕ) : Type 0 where
+pub record AreLeast (n : ℕ) (h : Parts) (s : ℕ) (least found : List ℕ) : Type 0 where
   pub size : length least ≡ n
   pub exact : (x : ℕ) → x < n → IsKnown least x → IsLeastHill (up_links n h) (down_links n h) s x (slice_index least x)
-  pub closed : (x y : ℕ) → x < n → IsKnown least x → IsUp h.shape.value.first h.shape.value.head x y → IsKnown least y
+  pub closed : (x y : ℕ) → x < n → IsKnown least x → IsUp h.shape.first h.shape.head x y → IsKnown least y
   pub listed : (x : ℕ) → x < n → IsKnown least x → HasPlace found 0 x
   pub ranks : (k : ℕ) → k < length found → slice_index found k < n
 
-pub record AreHills (n : ℕ) (h : Hierarchy) (l : LeastHills) : Type 0 where
+pub record AreHills (n : ℕ) (h : Parts) (l : LeastHills) : Type 0 where
   pub from : l.from < n
   pub climbed : IsClimbed n h.up l.from l.rising.items
   pub least : AreLeast n h l.from l.least.items l.found.items

@@ -1,6 +1,5 @@
 pub mod Climbs
 pub mod Asks
 pub mod Tables
-pub mod Engines
 pub mod KnownHills
 pub mod Sources

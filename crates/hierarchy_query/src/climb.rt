@@ -3,7 +3,7 @@
 ghost use Rattle.std.specs.Prelude.{◌≡◌, ◌<◌, ◌≤◌, ◌⊎◌, ℕ, min, length, slice_index, slice_set};
 ghost use Rattle.hierarchy_build.specs.Runs.{IsShape};
 ghost use Rattle.hierarchy_build.specs.Lengths.{no_link};
-ghost use Rattle.hierarchy_query.specs.Asks.{CanAsk, up_links, down_links};
+ghost use Rattle.hierarchy_query.specs.Asks.{up_links, down_links};
 ghost use Rattle.hierarchy_query.specs.Climbs.{IsBlank, CanRelax, CanClimb, IsRelaxed, IsClimbed, Above, IsLeastHill, CanMeet, IsMeeting};
 
 use hierarchy_build::{Hierarchy, Links, NO_LINK};
@@ -90,7 +90,7 @@ pub(crate) fn least_hill(
     forward: &mut [u64],
     backward: &mut [u64],
 ) -> (u64, u64)
-    requires can { CanAsk (length forward.old) hierarchy.now }
+    requires size { length hierarchy.now.shape.order ≡ length forward.old }
     requires from { s < length forward.old }
     requires to { t < length forward.old }
     requires forward { IsBlank (length forward.old) forward.old }
@@ -99,11 +99,11 @@ pub(crate) fn least_hill(
     ensures forward_blank { IsBlank (length forward.old) forward.new }
     ensures backward_blank { IsBlank (length forward.old) backward.new }
 {
-    let shape = &hierarchy.shape;
+    let shape = hierarchy.shape();
     let first = shape.first.as_slice();
     let head = shape.head.as_slice();
-    let rising = climb(first, head, &hierarchy.up, s, forward);
-    let falling = climb(first, head, &hierarchy.down, t, backward);
+    let rising = climb(first, head, hierarchy.up_links(), s, forward);
+    let falling = climb(first, head, hierarchy.down_links(), t, backward);
     let best = meet(first, head, forward, backward, s);
     clear(first, head, s, forward);
     clear(first, head, t, backward);

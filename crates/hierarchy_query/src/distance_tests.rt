@@ -14,7 +14,7 @@ use std::test::Fail;
 fn distances_from_1(alloc: Global, star: &Star, wishes: &[u32]) -> Result<DistancesFrom, Fail>
     ensures { IfOk result (λ d. d.graph.vertices ≡ star.now.vertices) }
 {
-    let vertices = star.graph().vertices();
+    let vertices = star.vertices();
     if vertices == 0 {
         return Err("no vertex".into());
     }
@@ -35,7 +35,7 @@ fn asked_from(
     requires { known.old.graph.vertices ≡ star.now.vertices }
     ensures { known.new.graph.vertices ≡ star.now.vertices }
 {
-    let vertices = star.graph().vertices();
+    let vertices = star.vertices();
     if from == 0 || from > vertices {
         return Err("no such source".into());
     }

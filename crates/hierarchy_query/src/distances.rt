@@ -3,7 +3,6 @@
 ghost use Rattle.std.specs.Prelude.{◌≡◌, IfOk};
 ghost use Rattle.road_model.specs.Graph.{IsVertex};
 ghost use Rattle.road_model.specs.Dist.{IsDist};
-ghost use Rattle.hierarchy_build.specs.Hierarchy.{IsHierarchy};
 ghost use Rattle.hierarchy_build.specs.Own.{own_graph};
 
 use crate::least_hills::LeastHills;
@@ -42,11 +41,10 @@ impl DistancesFrom {
         hierarchy: Arc<Hierarchy, Global>,
         source: Vertex,
     ) -> Result<DistancesFrom, NoMemory>
-        requires hierarchy { IsHierarchy (own_graph hierarchy.value) hierarchy.value }
-        requires source { IsVertex (own_graph hierarchy.value).vertices source }
+        requires { IsVertex (own_graph hierarchy.value).vertices source }
         ensures { IfOk result (λ d. d ≡ record { graph = own_graph hierarchy.value; source = source }) }
     {
-        let rank = hierarchy.shape.rank.as_slice()[source.number() as usize];
+        let rank = hierarchy.shape().rank.as_slice()[source.number() as usize];
         let hills = LeastHills::of(alloc, &hierarchy, rank)?;
         Ok(DistancesFrom {
             hierarchy,
@@ -62,7 +60,7 @@ impl DistancesFrom {
         ensures { self.new ≡ record { graph = self.old.graph; source = source } }
     {
         let hierarchy: &Hierarchy = &self.hierarchy;
-        let rank = hierarchy.shape.rank.as_slice()[source.number() as usize];
+        let rank = hierarchy.shape().rank.as_slice()[source.number() as usize];
         self.hills.restart(hierarchy, rank);
         self.source = source;
     }
@@ -76,7 +74,7 @@ impl DistancesFrom {
         ensures same { self.new ≡ self.old }
     {
         let hierarchy: &Hierarchy = &self.hierarchy;
-        let rank = hierarchy.shape.rank.as_slice()[to.number() as usize];
+        let rank = hierarchy.shape().rank.as_slice()[to.number() as usize];
         let least = self.hills.length(hierarchy, rank)?;
         if least >= NO_LINK {
             return Ok(None);

@@ -3,7 +3,7 @@
 ghost use Rattle.std.specs.Prelude.{◌≡◌, ◌<◌, ◌≤◌, ◌+◌, ℕ, IfOk, OnOk, length, slice_index};
 ghost use Rattle.hierarchy_build.specs.Runs.{InSpan, IsUp, IsShape, HasPlace};
 ghost use Rattle.hierarchy_build.specs.Lengths.{no_link};
-ghost use Rattle.hierarchy_query.specs.Asks.{CanAsk, up_links, down_links};
+ghost use Rattle.hierarchy_query.specs.Asks.{up_links, down_links};
 ghost use Rattle.hierarchy_query.specs.Climbs.{CanRelax, IsLeastHill};
 ghost use Rattle.hierarchy_query.specs.KnownHills.{IsKnown, AreUnknown, IsLonger, IsStacked, IsLeastOver, AreLeast, AreHills};
 
@@ -91,19 +91,18 @@ impl LeastHills {
         hierarchy: &Hierarchy,
         from: u32,
     ) -> Result<LeastHills, NoMemory>
-        requires can { CanAsk (length hierarchy.now.shape.value.order) hierarchy.now }
-        requires rank { from < length hierarchy.now.shape.value.order }
-        ensures hills { IfOk result (λ l. AreHills (length hierarchy.now.shape.value.order) hierarchy.now l) }
+        requires rank { from < length hierarchy.now.shape.order }
+        ensures hills { IfOk result (λ l. AreHills (length hierarchy.now.shape.order) hierarchy.now l) }
         ensures from { IfOk result (λ l. l.from ≡ from) }
     {
-        let shape = &hierarchy.shape;
+        let shape = hierarchy.shape();
         let ranks = shape.order.len();
         let mut rising = vec![in alloc; NO_LINK; ranks]?;
         let least = vec![in alloc; UNKNOWN; ranks]?;
         climb(
             shape.first.as_slice(),
             shape.head.as_slice(),
-            &hierarchy.up,
+            hierarchy.up_links(),
             from as usize,
             &mut rising,
         );
@@ -117,38 +116,44 @@ impl LeastHills {
 
     /// The same for another rank. It takes the time of what was worked out, and of the links above both ranks.
     pub(crate) fn restart(&mut self, hierarchy: &Hierarchy, from: u32)
-        requires can { CanAsk (length hierarchy.now.shape.value.order) hierarchy.now }
-        requires rank { from < length hierarchy.now.shape.value.order }
-        requires hills { AreHills (length hierarchy.now.shape.value.order) hierarchy.now self.old }
-        ensures hills { AreHills (length hierarchy.now.shape.value.order) hierarchy.now self.new }
+        requires rank { from < length hierarchy.now.shape.order }
+        requires hills { AreHills (length hierarchy.now.shape.order) hierarchy.now self.old }
+        ensures hills { AreHills (length hierarchy.now.shape.order) hierarchy.now self.new }
         ensures from { self.new.from ≡ from }
     {
-        let shape = &hierarchy.shape;
+        let shape = hierarchy.shape();
         let first = shape.first.as_slice();
         let head = shape.head.as_slice();
         forget(&self.found, &mut self.least);
         self.found.clear();
         clear(first, head, self.from as usize, &mut self.rising);
-        climb(first, head, &hierarchy.up, from as usize, &mut self.rising);
+        climb(
+            first,
+            head,
+            hierarchy.up_links(),
+            from as usize,
+            &mut self.rising,
+        );
         self.from = from;
     }
 
     // Works out the ranks that are listed from a place on, the last one first: what stands above a rank is known by
     // then.
     fn work_out(&mut self, hierarchy: &Hierarchy, from: usize, x: u32)
-        requires can { CanAsk (length hierarchy.now.shape.value.order) hierarchy.now }
-        requires hills { AreHills (length hierarchy.now.shape.value.order) hierarchy.now self.old }
+        requires hills { AreHills (length hierarchy.now.shape.order) hierarchy.now self.old }
         requires inside { from ≤ length self.old.found.items }
-        requires stacked { IsStacked hierarchy.now.shape.value.first hierarchy.now.shape.value.head self.old.least.items x from self.old.found.items }
-        ensures hills { AreHills (length hierarchy.now.shape.value.order) hierarchy.now self.new }
+        requires stacked { IsStacked hierarchy.now.shape.first hierarchy.now.shape.head self.old.least.items x from self.old.found.items }
+        ensures hills { AreHills (length hierarchy.now.shape.order) hierarchy.now self.new }
         ensures known { IsKnown self.new.least.items x }
         ensures from { self.new.from ≡ self.old.from }
     {
+        let _ = hierarchy.shape();
+        let down = hierarchy.down_links();
         let mut place = self.found.len();
         'back: while place > from {
             place -= 1;
             let y = self.found[place] as usize;
-            let best = least_over(&hierarchy.down, y, self.rising[y], &self.least);
+            let best = least_over(down, y, self.rising[y], &self.least);
             self.least[y] = best;
         }
     }
@@ -156,14 +161,13 @@ impl LeastHills {
     /// The length of the least hill to a rank, `NO_LINK` where there is none. It takes the time of the links of the
     /// ranks above it that aren't worked out yet; an `Err` leaves every length as it was.
     pub(crate) fn length(&mut self, hierarchy: &Hierarchy, x: u32) -> Result<u64, NoMemory>
-        requires can { CanAsk (length hierarchy.now.shape.value.order) hierarchy.now }
-        requires rank { x < length hierarchy.now.shape.value.order }
-        requires hills { AreHills (length hierarchy.now.shape.value.order) hierarchy.now self.old }
-        ensures hills { AreHills (length hierarchy.now.shape.value.order) hierarchy.now self.new }
-        ensures least { IfOk result (λ best. IsLeastHill (up_links (length hierarchy.now.shape.value.order) hierarchy.now) (down_links (length hierarchy.now.shape.value.order) hierarchy.now) self.old.from x best) }
+        requires rank { x < length hierarchy.now.shape.order }
+        requires hills { AreHills (length hierarchy.now.shape.order) hierarchy.now self.old }
+        ensures hills { AreHills (length hierarchy.now.shape.order) hierarchy.now self.new }
+        ensures least { IfOk result (λ best. IsLeastHill (up_links (length hierarchy.now.shape.order) hierarchy.now) (down_links (length hierarchy.now.shape.order) hierarchy.now) self.old.from x best) }
         ensures from { self.new.from ≡ self.old.from }
     {
-        let shape = &hierarchy.shape;
+        let shape = hierarchy.shape();
         let listed = self.found.len();
         stack(
             shape.first.as_slice(),

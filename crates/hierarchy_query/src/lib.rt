@@ -1,14 +1,14 @@
 //! Distances of a road graph by its hierarchy.
 #![tactic(auto)]
 
-mod adaptive;
 mod climb;
+mod climb_memory;
 mod distances;
 mod least_hills;
 mod oracle;
 mod tables;
 
-pub use adaptive::AdaptiveOracle;
+pub use climb_memory::ClimbMemory;
 pub use distances::DistancesFrom;
 pub use oracle::HierarchyOracle;
 pub use tables::{DistanceList, one_to_many};

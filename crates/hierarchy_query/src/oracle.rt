@@ -1,8 +1,8 @@
-ghost use Rattle.std.specs.Prelude.{◌≡◌, IfOk};
-ghost use Rattle.hierarchy_build.specs.Hierarchy.{IsHierarchy};
+ghost use Rattle.std.specs.Prelude.{◌≡◌, length, IfOk, IsOk};
 ghost use Rattle.hierarchy_build.specs.Own.{own_graph};
 
 use crate::climb::least_hill;
+use crate::climb_memory::ClimbMemory;
 use hierarchy_build::{Hierarchy, NO_LINK};
 use road_model::{NoMemory, Oracle, Vertex};
 use std::alloc::Global;
@@ -23,14 +23,15 @@ pub struct HierarchyOracle {
 }
 
 impl Model for HierarchyOracle {
+    ghost use Rattle.std.specs.Prelude.{length};
     ghost use Rattle.hierarchy_build.specs.Own.{own_graph};
-    ghost use Rattle.hierarchy_query.specs.Asks.{Questions, IsReady};
+    ghost use Rattle.hierarchy_query.specs.Asks.{Questions, AreBlank};
 
     ghost Value = { Questions };
 
     ghost view = { λ o. record { graph = own_graph o.hierarchy.value; asked = o.asked } };
 
-    ghost invariant = { λ o. IsReady o.hierarchy.value o.forward.items o.backward.items };
+    ghost invariant = { λ o. AreBlank (length o.hierarchy.value.shape.order) o.forward.items o.backward.items };
 }
 
 impl HierarchyOracle {
@@ -39,12 +40,24 @@ impl HierarchyOracle {
         alloc: Global,
         hierarchy: Arc<Hierarchy, Global>,
     ) -> Result<HierarchyOracle, NoMemory>
-        requires { IsHierarchy (own_graph hierarchy.value) hierarchy.value }
         ensures { IfOk result (λ o. o ≡ record { graph = own_graph hierarchy.value; asked = 0 }) }
     {
-        let ranks = hierarchy.shape.order.len();
-        let forward = vec![in alloc; NO_LINK; ranks]?;
-        let backward = vec![in alloc; NO_LINK; ranks]?;
+        let oracle = HierarchyOracle::in_memory(alloc, ClimbMemory::new(alloc), hierarchy)?;
+        Ok(oracle)
+    }
+
+    /// The same in the memory of an earlier oracle. Where that was for as many vertices, it takes constant time and no
+    /// memory. An `Err` gives the memory back to the allocator.
+    pub fn in_memory(
+        alloc: Global,
+        memory: ClimbMemory,
+        hierarchy: Arc<Hierarchy, Global>,
+    ) -> Result<HierarchyOracle, NoMemory>
+        ensures oracle { IfOk result (λ o. o ≡ record { graph = own_graph hierarchy.value; asked = 0 }) }
+        ensures kept { memory ≡ length hierarchy.value.shape.order → IsOk result }
+    {
+        let ranks = hierarchy.shape().order.len();
+        let ClimbMemory { forward, backward } = memory.prepared(alloc, ranks)?;
         Ok(HierarchyOracle {
             hierarchy,
             forward,
@@ -52,6 +65,18 @@ impl HierarchyOracle {
             asked: 0,
             settled: 0,
         })
+    }
+
+    /// Its memory, for another oracle. Takes no memory itself.
+    pub fn into_memory(self) -> ClimbMemory
+        ensures { result ≡ self.graph.vertices }
+    {
+        let HierarchyOracle {
+            forward,
+            backward,
+            ..
+        } = self;
+        ClimbMemory { forward, backward }
     }
 }
 
@@ -62,7 +87,7 @@ impl Oracle for HierarchyOracle {
 
     fn distance(&mut self, from: Vertex, to: Vertex) -> Result<Option<u64>, NoMemory> {
         let hierarchy: &Hierarchy = &self.hierarchy;
-        let shape = &hierarchy.shape;
+        let shape = hierarchy.shape();
         let s = shape.rank.as_slice()[from.number() as usize] as usize;
         let t = shape.rank.as_slice()[to.number() as usize] as usize;
         let (best, passed) = least_hill(hierarchy, s, t, &mut self.forward, &mut self.backward);

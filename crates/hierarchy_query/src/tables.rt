@@ -1,6 +1,5 @@
 ghost use Rattle.std.specs.Prelude.{IfOk, All};
 ghost use Rattle.road_model.specs.Graph.{IsVertex};
-ghost use Rattle.hierarchy_build.specs.Hierarchy.{IsHierarchy};
 ghost use Rattle.hierarchy_build.specs.Own.{own_graph};
 ghost use Rattle.hierarchy_query.specs.Tables.{AreDists};
 
@@ -22,7 +21,6 @@ pub fn one_to_many(
     from: Vertex,
     targets: &[Vertex],
 ) -> Result<DistanceList, NoMemory>
-    requires hierarchy { IsHierarchy (own_graph hierarchy.value) hierarchy.value }
     requires from { IsVertex (own_graph hierarchy.value).vertices from }
     requires targets { All (IsVertex (own_graph hierarchy.value).vertices) targets.now }
     ensures { IfOk result (λ ds. AreDists (own_graph hierarchy.value) from targets.now ds) }

@@ -28,7 +28,7 @@ fn oracle_of(alloc: Global, star: &Star, order: Order) -> Result<HierarchyOracle
 fn is_right(alloc: Global, star: &Star, order: Order) -> Result<bool, Fail>
     requires { IsOrder star.now.vertices order.vertices }
 {
-    let _limits = star.graph();
+    star.within_limits();
     let mut quick = oracle_of(alloc, star, order)?;
     let mut plain = PlainOracle::new(alloc, star)?;
     for from in 1..star.vertices() + 1 {
@@ -81,7 +81,7 @@ fn every_order_of_five_vertices_gives_the_distances(rt: HostRuntime) -> Result<(
 
 // Whether plain searches find the same for so many random pairs, of which some have a distance.
 fn is_right_at(alloc: Global, star: &Star, pairs: u32) -> Result<bool, Fail> {
-    let _limits = star.graph();
+    star.within_limits();
     if star.vertices() == 0 {
         return Ok(false);
     }

@@ -10,7 +10,7 @@ use Rattle.std.proofs.lemmas.List.Sorted.{length_permutation}
 use Rattle.std.proofs.lemmas.List.Sums.{sum_by-set}
 use Rattle.std.proofs.lemmas.Map.Keys.{IsDistinct-push, IsDistinct-from_apart}
 use Rattle.label_setting.specs.declared.queue.Entry.{Entry}
-use Rattle.label_setting.specs.Search.{far, IsTracked, IsListed}
+use Rattle.label_setting.specs.Search.{far, IsTracked, IsTouchedList}
 use Rattle.label_setting.proofs.Entries.{Contains-cons_cases}
 
 abbrev IsPlace : ℕ → ℕ → Type 0
@@ -84,8 +84,8 @@ touched_before label head x touched other h =
     (λ (no : eqb label far ≡ false). subst (λ (b : Bool). Contains (cond b (touched ++ head ∷ []) touched) x) no h)
     (cases_Bool (eqb label far))
 
-pub IsListed-given : (radius : ℕ) (labels : List ℕ) (head d : ℕ) (touched : List ℕ) → IsListed radius labels touched → head < length labels → d ≤ radius → IsListed radius (set labels head d) (touched_with (get_or labels head 0) head touched)
-IsListed-given radius labels head d touched h inside low =
+pub IsTouchedList-given : (radius : ℕ) (labels : List ℕ) (head d : ℕ) (touched : List ℕ) → IsTouchedList radius labels touched → head < length labels → d ≤ radius → IsTouchedList radius (set labels head d) (touched_with (get_or labels head 0) head touched)
+IsTouchedList-given radius labels head d touched h inside low =
     record {
       low = h.low;
       each = (λ x there. ⊎_elim
@@ -132,8 +132,8 @@ IsTracked-begun labels root d bare inside =
           (cases_eq x root));
     }
 
-pub IsListed-begun : (radius : ℕ) (labels : List ℕ) (root : ℕ) → root < length labels → radius < 2 ^ 60 → IsListed radius (set labels root 0) (root ∷ [])
-IsListed-begun radius labels root inside low =
+pub IsTouchedList-begun : (radius : ℕ) (labels : List ℕ) (root : ℕ) → root < length labels → radius < 2 ^ 60 → IsTouchedList radius (set labels root 0) (root ∷ [])
+IsTouchedList-begun radius labels root inside low =
     record {
       low = low;
       each = (λ x there. ⊎_elim

@@ -3,10 +3,10 @@
 --   IsMet limit labels k v a walk of length k to v betters nothing: it is above the limit, or the label of v is no more
 --   IsRelaxed g limit labels x   no step out of x betters a label
 --   IsTracked labels touched   each vertex with a label is among the touched ones
---   IsListed radius labels touched   the touched vertices have labels within the radius, and none is listed twice
+--   IsTouchedList radius labels touched   the touched vertices have labels within the radius, and none is listed twice
 --   IsEntry n e            an entry of a vertex, with a distance that a sum may start from
 --   IsAimed goal limit labels  the limit is the target's label, or the radius where the target has none within it
---   IsFresh f              no vertex has a label, and nothing is queued
+--   IsFreshMemory f              no vertex has a label, and nothing is queued
 --   Stays, Betters         what the walk over one more arc does to a label, the queue and the limit
 --   IsSearch g goal limit labels queue v n   labels are lengths of walks; each labelled vertex below the limit
 --                          waits in the queue or is relaxed, but for v, of which the first n steps are
@@ -37,7 +37,7 @@ pub record IsTracked (labels touched : List ℕ) : Type 0 where
   pub inside : All (λ v. v < length labels) touched
   pub covers : (x : ℕ) → x < length labels → (slice_index labels x ≡ far) ⊎ Contains touched x
 
-pub record IsListed (radius : ℕ) (labels touched : List ℕ) : Type 0 where
+pub record IsTouchedList (radius : ℕ) (labels touched : List ℕ) : Type 0 where
   pub low : radius < 2 ^ 60
   pub each : (x : ℕ) → Contains touched x → slice_index labels x ≤ radius
   pub apart : IsDistinct nat_eq touched
@@ -49,7 +49,7 @@ pub record IsEntry (n : ℕ) (e : Entry) : Type 0 where
 abbrev pub IsAimed : Goal → ℕ → List ℕ → Type 0
 IsAimed goal limit labels = (slice_index labels goal.target ≡ limit) ⊎ ((limit ≡ goal.radius) × (goal.radius < slice_index labels goal.target))
 
-pub record IsFresh (f : SearchMemory) : Type 0 where
+pub record IsFreshMemory (f : SearchMemory) : Type 0 where
   pub bare : All (λ x. x ≡ far) f.labels.items
   pub untouched : f.touched.items ≡ []
   pub idle : f.queue ≡ []
@@ -90,7 +90,7 @@ work_left f = 2 * sum f.labels.items + length f.queue
 
 -- a search that has labelled its root
 pub record Begins (goal : Goal) (f : SearchMemory) : Type 0 where
-  pub listed : IsListed goal.radius f.labels.items f.touched.items
+  pub listed : IsTouchedList goal.radius f.labels.items f.touched.items
   pub root : slice_index f.labels.items goal.root ≡ 0
   pub others : (x : ℕ) → x < length f.labels.items → x ≢ goal.root → slice_index f.labels.items x ≡ far
   pub queue : IsPermutation (record { distance = 0; vertex = goal.root } ∷ []) f.queue

@@ -1,6 +1,6 @@
 ghost use Rattle.std.specs.Prelude.{All, ◌≡◌, ◌≢◌, ◌<◌, ◌≤◌, ◌+◌, ◌^◌, ◌⊎◌, [], ◌∷◌, ◌++◌, length, slice_index, slice_set, IfOk, OnOk, OnErr, IsPermutation, ◌==◌, if◌then◌else◌};
 ghost use Rattle.road_model.specs.Graph.{IsGraph, IsVertex, LengthsBelow};
-ghost use Rattle.label_setting.specs.Search.{far, IsFresh, IsTracked, IsListed, Stays, Betters, IsSearch, IsSettled, IsAimed, work_left, Begins};
+ghost use Rattle.label_setting.specs.Search.{far, IsFreshMemory, IsTracked, IsTouchedList, Stays, Betters, IsSearch, IsSettled, IsAimed, work_left, Begins};
 
 use crate::queue::{Entry, Queue};
 use road_model::{Network, NoMemory, Vertex};
@@ -90,7 +90,7 @@ impl SearchMemory {
     pub fn prepare(&mut self, alloc: Global, vertices: u32) -> Result<(), NoMemory>
         requires { IsTracked self.old.labels.items self.old.touched.items }
         ensures size { OnOk result (length self.new.labels.items ≡ vertices + 1) }
-        ensures fresh { OnOk result (IsFresh self.new) }
+        ensures fresh { OnOk result (IsFreshMemory self.new) }
         ensures tracked { IsTracked self.new.labels.items self.new.touched.items }
     {
         self.reset();
@@ -106,7 +106,7 @@ impl SearchMemory {
     pub fn reset(&mut self)
         requires { IsTracked self.old.labels.items self.old.touched.items }
         ensures size { length self.new.labels.items ≡ length self.old.labels.items }
-        ensures fresh { IsFresh self.new }
+        ensures fresh { IsFreshMemory self.new }
     {
         take_back(&mut self.labels, &self.touched);
         self.touched.clear();
@@ -116,7 +116,7 @@ impl SearchMemory {
     // Gives the root its label.
     fn begin(&mut self, goal: Goal) -> Result<(), NoMemory>
         requires inside { goal.root < length self.old.labels.items }
-        requires fresh { IsFresh self.old }
+        requires fresh { IsFreshMemory self.old }
         requires low { goal.radius < 2 ^ 60 }
         ensures size { length self.new.labels.items ≡ length self.old.labels.items }
         ensures tracked { IsTracked self.new.labels.items self.new.touched.items }
@@ -136,13 +136,13 @@ impl SearchMemory {
     fn give(&mut self, goal: Goal, head: Vertex, distance: u64) -> Result<(), NoMemory>
         requires inside { head < length self.old.labels.items }
         requires tracked { IsTracked self.old.labels.items self.old.touched.items }
-        requires listed { IsListed goal.radius self.old.labels.items self.old.touched.items }
+        requires listed { IsTouchedList goal.radius self.old.labels.items self.old.touched.items }
         requires within { distance ≤ goal.radius }
         requires better { distance < slice_index self.old.labels.items head }
         ensures size { length self.new.labels.items ≡ length self.old.labels.items }
         ensures tracked { IsTracked self.new.labels.items self.new.touched.items }
         ensures work { work_left self.new ≤ work_left self.old }
-        ensures listed { OnOk result (IsListed goal.radius self.new.labels.items self.new.touched.items) }
+        ensures listed { OnOk result (IsTouchedList goal.radius self.new.labels.items self.new.touched.items) }
         ensures labels { OnOk result (self.new.labels.items ≡ slice_set self.old.labels.items head distance) }
         ensures queue { OnOk result
             (IsPermutation (record { distance = distance; vertex = head } ∷ self.old.queue) self.new.queue) }
@@ -168,12 +168,12 @@ impl SearchMemory {
     ) -> Result<u64, NoMemory>
         requires inside { head < length self.old.labels.items }
         requires tracked { IsTracked self.old.labels.items self.old.touched.items }
-        requires listed { IsListed goal.radius self.old.labels.items self.old.touched.items }
+        requires listed { IsTouchedList goal.radius self.old.labels.items self.old.touched.items }
         requires within { limit ≤ goal.radius }
         ensures size { length self.new.labels.items ≡ length self.old.labels.items }
         ensures tracked { IsTracked self.new.labels.items self.new.touched.items }
         ensures work { work_left self.new ≤ work_left self.old }
-        ensures listed { OnOk result (IsListed goal.radius self.new.labels.items self.new.touched.items) }
+        ensures listed { OnOk result (IsTouchedList goal.radius self.new.labels.items self.new.touched.items) }
         ensures reached { IfOk result (λ after. Stays limit distance head after self.old self.new
             ⊎ Betters goal.target limit distance head after self.old self.new) }
     {
@@ -198,12 +198,12 @@ impl SearchMemory {
         requires label { slice_index self.old.labels.items from.vertex ≡ from.distance }
         requires near { from.distance < 2 ^ 60 }
         requires tracked { IsTracked self.old.labels.items self.old.touched.items }
-        requires listed { IsListed goal.radius self.old.labels.items self.old.touched.items }
+        requires listed { IsTouchedList goal.radius self.old.labels.items self.old.touched.items }
         requires search { IsSearch (N.graph net.now) goal limit self.old.labels.items self.old.queue from.vertex 0 }
         ensures size { length self.new.labels.items ≡ length self.old.labels.items }
         ensures tracked { IsTracked self.new.labels.items self.new.touched.items }
         ensures work { work_left self.new ≤ work_left self.old }
-        ensures listed { OnOk result (IsListed goal.radius self.new.labels.items self.new.touched.items) }
+        ensures listed { OnOk result (IsTouchedList goal.radius self.new.labels.items self.new.touched.items) }
         ensures search { IfOk result (λ after.
             IsSearch (N.graph net.now) goal after self.new.labels.items self.new.queue 0 0) }
     {
@@ -226,10 +226,10 @@ impl SearchMemory {
         requires target { goal.target ≤ (N.graph net.now).vertices }
         requires low { goal.radius < 2 ^ 60 }
         requires size { length self.old.labels.items ≡ (N.graph net.now).vertices + 1 }
-        requires fresh { IsFresh self.old }
+        requires fresh { IsFreshMemory self.old }
         ensures size { length self.new.labels.items ≡ length self.old.labels.items }
         ensures tracked { IsTracked self.new.labels.items self.new.touched.items }
-        ensures listed { OnOk result (IsListed goal.radius self.new.labels.items self.new.touched.items) }
+        ensures listed { OnOk result (IsTouchedList goal.radius self.new.labels.items self.new.touched.items) }
         ensures within { IfOk result (λ limit. limit ≤ goal.radius) }
         ensures unused { OnOk result (slice_index self.new.labels.items 0 ≡ far) }
         ensures aimed { IfOk result (λ limit. IsAimed goal limit self.new.labels.items) }

@@ -15,6 +15,7 @@
 --   pair_text          two places, and the distance between their vertices
 --   verdict_text       a verdict, from its word on
 --   why_text           the lines of a verdict
+--   spaced_text number   a number after a space, where there is one
 --   error_text         an error, from its word on
 --   reply_text r plan  the lines of a reply; a page is one of the plan beside it
 --   HasSpan span plan  the plan has the items of the span
@@ -31,9 +32,9 @@ use Rattle.road_model.specs.declared.answer.Verdict.{Verdict}
 use Rattle.road_model.specs.declared.answer.Verdict.TheVariants as verdict
 use Rattle.road_model.specs.declared.request.Cursor.{Cursor}
 use Rattle.road_model.specs.declared.request.ErrorKind.{ErrorKind}
-use Rattle.road_model.specs.declared.request.ErrorKind.TheVariants as error
 use Rattle.road_model.specs.declared.request.Reply.{Reply}
 use Rattle.road_model.specs.declared.request.Reply.TheVariants as reply
+use Rattle.road_model.specs.Messages.{error_word, error_number}
 use Rattle.route_ranking.specs.Cursors.{cursor_text}
 
 abbrev pub arcs_text : List ℕ → List ℕ
@@ -97,19 +98,12 @@ verdict_text (verdict.Listed name) = numbered (codes "listed ") name
 abbrev pub why_text : ℕ → ℕ → Verdict → List ℕ
 why_text number via v = ok_text number ++ line_text (numbered (codes "verdict ") via ++ codes " " ++ verdict_text v) ++ end_text
 
+abbrev pub spaced_text : Option ℕ → List ℕ
+spaced_text None = []
+spaced_text (Some number) = numbered (codes " ") number
+
 abbrev pub error_text : ErrorKind → List ℕ
-error_text error.Long = codes "long"
-error_text error.Syntax = codes "syntax"
-error_text error.Cursor = codes "cursor"
-error_text error.Vertex = codes "vertex"
-error_text error.Ratio = codes "ratio"
-error_text error.Size = codes "size"
-error_text (error.Behind number) = numbered (codes "behind ") number
-error_text (error.Gone number) = numbered (codes "gone ") number
-error_text error.ArcRange = codes "arc"
-error_text error.LengthRange = codes "length"
-error_text error.Full = codes "full"
-error_text error.Memory = codes "memory"
+error_text kind = error_word kind ++ spaced_text (error_number kind)
 
 abbrev pub reply_text : Reply → Option Plan → List ℕ
 reply_text (reply.Best number optimum) plan = best_text number optimum

@@ -86,10 +86,10 @@ fn with_option(name: &[u8], value: &[u8], options: Options) -> Option<Options>
 pub(crate) fn read_options(fields: &[u8]) -> Option<Options>
     ensures { result ≡ options_of (fields_of fields.now) }
 {
-    let Some((name, behind)) = first_field(fields) else {
+    let Some((name, beyond)) = first_field(fields) else {
         return Some(NO_OPTIONS);
     };
-    let (value, rest) = first_field(behind)?;
+    let (value, rest) = first_field(beyond)?;
     let options = read_options(rest)?;
     with_option(name, value, options)
 }

@@ -7,8 +7,8 @@ ghost use Rattle.road_io.specs.Count.{HasRisen};
 ghost use Rattle.route_ranking.specs.Cursors.{cursor_text};
 ghost use Rattle.line_front.specs.Pieces.{put_of, Appends};
 ghost use Rattle.line_front.specs.Replies.{HasItems, HasSpan, best_text, end_text, error_text, items_text, line_text};
-ghost use Rattle.line_front.specs.Replies.{more_text, numbered, ok_text, page_text, pair_text, reply_text, verdict_text};
-ghost use Rattle.line_front.specs.Replies.{why_text};
+ghost use Rattle.line_front.specs.Replies.{more_text, numbered, ok_text, page_text, pair_text, reply_text, spaced_text};
+ghost use Rattle.line_front.specs.Replies.{verdict_text, why_text};
 
 use crate::items::{put_items, put_optimum};
 use crate::pieces::{SinkFailed, put, put_numbered, put_numbered_line};
@@ -153,24 +153,22 @@ fn put_why<K: Sink>(
     put_end(sink)
 }
 
+/// Writes a number after a space, where there is one.
+fn put_spaced<K: Sink>(sink: &mut K, number: Option<u64>) -> Result<(), SinkFailed>
+    ensures { Appends K.written K.faults (spaced_text number) sink.old sink.new (put_of result) }
+{
+    match number {
+        Some(number) => put_numbered(sink, b" ", number),
+        None => Ok(()),
+    }
+}
+
 /// Writes an error, from its word on.
 fn put_kind<K: Sink>(sink: &mut K, kind: ErrorKind) -> Result<(), SinkFailed>
     ensures { Appends K.written K.faults (error_text kind) sink.old sink.new (put_of result) }
 {
-    match kind {
-        ErrorKind::Long => put(sink, b"long"),
-        ErrorKind::Syntax => put(sink, b"syntax"),
-        ErrorKind::Cursor => put(sink, b"cursor"),
-        ErrorKind::Vertex => put(sink, b"vertex"),
-        ErrorKind::Ratio => put(sink, b"ratio"),
-        ErrorKind::Size => put(sink, b"size"),
-        ErrorKind::Behind(number) => put_numbered(sink, b"behind ", number),
-        ErrorKind::Gone(number) => put_numbered(sink, b"gone ", number),
-        ErrorKind::ArcRange => put(sink, b"arc"),
-        ErrorKind::LengthRange => put(sink, b"length"),
-        ErrorKind::Full => put(sink, b"full"),
-        ErrorKind::Memory => put(sink, b"memory"),
-    }
+    put(sink, kind.word().as_bytes())?;
+    put_spaced(sink, kind.number())
 }
 
 fn put_error<K: Sink>(sink: &mut K, kind: ErrorKind) -> Result<(), SinkFailed>

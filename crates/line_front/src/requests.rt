@@ -53,8 +53,8 @@ pub enum Parsed {
 fn two_numbers(fields: &[u8]) -> Option<(u64, u64)>
     ensures { result ≡ two_numbers (fields_of fields.now) }
 {
-    let (first, behind) = first_field(fields)?;
-    let (second, rest) = first_field(behind)?;
+    let (first, beyond) = first_field(fields)?;
+    let (second, rest) = first_field(beyond)?;
     if first_field(rest).is_some() {
         return None;
     }
@@ -94,8 +94,8 @@ fn query_with(from: u64, to: u64, options: &Options) -> CursorQuery
 fn read_route(fields: &[u8]) -> Option<Request>
     ensures { result ≡ route_of (fields_of fields.now) }
 {
-    let (from, behind) = first_field(fields)?;
-    let (to, rest) = first_field(behind)?;
+    let (from, beyond) = first_field(fields)?;
+    let (to, rest) = first_field(beyond)?;
     let from = number(from)?;
     let to = number(to)?;
     let options = read_options(rest)?;
@@ -124,9 +124,9 @@ fn read_next(fields: &[u8]) -> Option<Request>
 fn read_why(fields: &[u8]) -> Option<Request>
     ensures { result ≡ why_of (fields_of fields.now) }
 {
-    let (from, behind) = first_field(fields)?;
-    let (to, behind) = first_field(behind)?;
-    let (via, rest) = first_field(behind)?;
+    let (from, beyond) = first_field(fields)?;
+    let (to, beyond) = first_field(beyond)?;
+    let (via, rest) = first_field(beyond)?;
     let from = number(from)?;
     let to = number(to)?;
     let via = number(via)?;

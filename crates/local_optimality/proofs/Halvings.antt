@@ -12,18 +12,18 @@ use Rattle.road_model.proofs.Dists.{IsDist-same}
 use Rattle.path_tests.specs.JoinedTrail.{IsJoinedTrail}
 use Rattle.path_tests.specs.Passing.{HasFailure}
 use Rattle.path_tests.proofs.Searches.{AsksWithin-none, AsksWithin-both, AsksWithin-up}
-use Rattle.local_optimality.specs.Detour.{IsRising, IsDetour, TellsDetour, FindsDetour, IsFailingStart, FindsFailingStart}
+use Rattle.local_optimality.specs.Detour.{HasRisingSums, IsDetour, TellsDetour, FindsDetour, IsFailingStart, FindsFailingStart}
 use Rattle.local_optimality.proofs.TestedParts.{IsTested-earlier, IsTested-up}
-use Rattle.local_optimality.proofs.ClearSubpaths.{IsRising-from_joined, clear_passes, local_in_front, detour_is_least}
+use Rattle.local_optimality.proofs.ClearSubpaths.{HasRisingSums-from_joined, clear_passes, local_in_prefix, detour_is_least}
 
 -- one subpath that is as long as the distance clears all first places in it before `end`, if it is no shorter than
 -- what is tested from the last of them
 pub starts_cleared : (o : Graph) (f : Fraction) (l : ℕ) (t : Trail) (via first end reach : ℕ) → IsJoinedTrail o t via → end ≤ via → via ≤ reach → reach < length t.vertices → ((i j d : ℕ) → i < first → FailsLocal o f l t i j d → ⊥) → IsDistAt o t first reach (between t first reach) → ((j : ℕ) → reach < j → j < length t.vertices → IsTested f l t (end - 1) j → ⊥) → (i j d : ℕ) → i < end → FailsLocal o f l t i j d → ⊥
-starts_cleared o f l t via first end reach h within behind inside below clear untested i j d before fails =
+starts_cleared o f l t via first end reach h within beyond inside below clear untested i j d before fails =
     ⊎_elim (λ (less : i < first). below i j d less fails)
     (λ (from : first ≤ i).
     ⊎_elim (λ (past : reach < j).
-    let later : IsTested f l t (i + (end - 1 - i)) j = IsTested-up f l t i (end - 1 - i) j (IsRising-from_joined o t via h) (omega arith) fails.inside fails.tested in
+    let later : IsTested f l t (i + (end - 1 - i)) j = IsTested-up f l t i (end - 1 - i) j (HasRisingSums-from_joined o t via h) (omega arith) fails.inside fails.tested in
     let same : i + (end - 1 - i) ≡ end - 1 = omega arith in
     untested j past fails.inside (subst (λ (x : ℕ). IsTested f l t x j) same later))
     (λ (le : j ≤ reach).
@@ -47,7 +47,7 @@ OnRounds-start o f l t asked via first h within untested =
       same = refl;
       passed = (λ i j d before fails.
           ⊎_elim (λ (lt : via < j). untested i j before lt fails.inside fails.tested)
-          (λ (le : j ≤ via). local_in_front o f l t via i j d h le fails)
+          (λ (le : j ≤ via). local_in_prefix o f l t via i j d h le fails)
           (cases_lt via j));
       inside = within;
       some = omega arith;
@@ -57,12 +57,12 @@ OnRounds-start o f l t asked via first h within untested =
     }
 
 pub OnRounds-cleared : (old now after : Graph) (f : Fraction) (l : ℕ) (t : Trail) (asked_old asked_now asked_after via first width end reach next : ℕ) (found : Option ℕ) → IsJoinedTrail old t via → OnRounds old now f l t asked_old asked_now via first width → after ≡ now → AsksWithin asked_now asked_after 1 → TellsDetour now t first reach found → found ≡ None → first < end → end ≤ via → via ≤ reach → reach < length t.vertices → ((j : ℕ) → reach < j → j < length t.vertices → IsTested f l t (end - 1) j → ⊥) → 1 ≤ next → next ≤ 2 * (end - first) → OnRounds old after f l t asked_old asked_after via end next
-OnRounds-cleared old now after f l t asked_old asked_now asked_after via first width end reach next found h r same one told none onward within behind inside untested some narrow =
+OnRounds-cleared old now after f l t asked_old asked_now asked_after via first width end reach next found h r same one told none onward within beyond inside untested some narrow =
     let clear_now : IsDistAt now t first reach (between t first reach) = subst (λ (o : Option ℕ). TellsDetour now t first reach o) none told in
     let clear : IsDistAt old t first reach (between t first reach) = subst (λ (g : Graph). IsDistAt g t first reach (between t first reach)) r.same clear_now in
     record {
       same = same ∙ r.same;
-      passed = starts_cleared old f l t via first end reach h within behind inside r.passed clear untested;
+      passed = starts_cleared old f l t via first end reach h within beyond inside r.passed clear untested;
       inside = within;
       some = some;
       count = r.count + 1;
@@ -87,10 +87,10 @@ asks_once_more old now f l t asked_old asked_now asked_after via first width n r
     AsksWithin-up asked_old asked_after (r.count + 1) n (omega (arith, r.few, r.some)) (AsksWithin-both asked_old asked_now asked_after r.count 1 r.asks one)
 
 -- a detour that begins before the via ends after it
-pub detour_behind : (o : Graph) (t : Trail) (via first reach d : ℕ) → IsJoinedTrail o t via → first < via → first ≤ reach → IsDetour o t first reach d → via < reach
-detour_behind o t via first reach d h before rise detour =
+pub detour_beyond : (o : Graph) (t : Trail) (via first reach d : ℕ) → IsJoinedTrail o t via → first < via → first ≤ reach → IsDetour o t first reach d → via < reach
+detour_beyond o t via first reach d h before rise detour =
     ⊎_elim (λ (lt : via < reach). lt)
-    (λ (le : reach ≤ via). absurd (detour.other (IsDist-same o (vertex_at t first) (vertex_at t reach) (between t first reach) d (h.front first reach rise le) detour.dist)))
+    (λ (le : reach ≤ via). absurd (detour.other (IsDist-same o (vertex_at t first) (vertex_at t reach) (between t first reach) d (h.prefix first reach rise le) detour.dist)))
     (cases_lt via reach)
 
 pub IsDetour-told : (old now : Graph) (t : Trail) (first reach d : ℕ) (found : Option ℕ) → now ≡ old → TellsDetour now t first reach found → found ≡ Some d → IsDetour old t first reach d
@@ -106,9 +106,9 @@ failing_fails o f l t via pair s =
       last = pair.last;
       distance = pair.distance;
       fails = record {
-        rise = omega (arith, s.before, s.behind);
+        rise = omega (arith, s.before, s.beyond);
         inside = s.inside;
-        tested = s.tested pair.last s.behind (omega arith);
+        tested = s.tested pair.last s.beyond (omega arith);
         dist = s.detour.dist;
         other = s.detour.other;
       };
@@ -158,16 +158,16 @@ end_found old now t asked_old asked_now via first reach clear last distance pair
     subst (λ (p : Pair). FindsDetour old t via first reach p) (sym is)
     (record {
       here = refl;
-      behind = omega (arith, e.from, e.apart);
+      beyond = omega (arith, e.from, e.apart);
       within = e.within;
       detour = e.detour;
       least = (λ j lt less. h.inner first first j clear (omega arith) (omega arith) (omega (arith, meet, less)) (omega (arith, e.apart, e.within)) e.passed);
     })
 
 -- no first place so far is tested with an end after the via
-pub starts_untested : (f : Fraction) (l : ℕ) (t : Trail) (via first : ℕ) (tested : Bool) → IsRising t → first < via → ((i j : ℕ) → i < first → via < j → j < length t.vertices → IsTested f l t i j → ⊥) → (IsTested f l t first (via + 1) → IsTrue tested) → tested ≡ false → (i j : ℕ) → i < first + 1 → via < j → j < length t.vertices → IsTested f l t i j → ⊥
-starts_untested f l t via first tested r before below only none i j lt behind inside h =
-    ⊎_elim (λ (less : i < first). below i j less behind inside h)
+pub starts_untested : (f : Fraction) (l : ℕ) (t : Trail) (via first : ℕ) (tested : Bool) → HasRisingSums t → first < via → ((i j : ℕ) → i < first → via < j → j < length t.vertices → IsTested f l t i j → ⊥) → (IsTested f l t first (via + 1) → IsTrue tested) → tested ≡ false → (i j : ℕ) → i < first + 1 → via < j → j < length t.vertices → IsTested f l t i j → ⊥
+starts_untested f l t via first tested r before below only none i j lt beyond inside h =
+    ⊎_elim (λ (less : i < first). below i j less beyond inside h)
     (λ (le : first ≤ i).
     let same : i ≡ first = omega arith in
     let here : IsTested f l t first j = subst (λ (x : ℕ). IsTested f l t x j) same h in
@@ -189,7 +189,7 @@ asks_before_in asked_old asked_now found pair h is = subst (λ (x : Option Pair)
 
 pub asks_of_local : (o : Graph) (f : Fraction) (l : ℕ) (t : Trail) (via asked_old asked_now asked_after : ℕ) (pair : Pair) → IsFailingStart o f l t via pair → AsksWithin asked_old asked_now (2 * pair.first + 1) → AsksWithin asked_now asked_after (pair.last - (via + 1)) → AsksWithin asked_old asked_after (via + length t.vertices)
 asks_of_local o f l t via asked_old asked_now asked_after pair s before after =
-    AsksWithin-up asked_old asked_after (2 * pair.first + 1 + (pair.last - (via + 1))) (via + length t.vertices) (omega (arith, s.before, s.behind, s.inside))
+    AsksWithin-up asked_old asked_after (2 * pair.first + 1 + (pair.last - (via + 1))) (via + length t.vertices) (omega (arith, s.before, s.beyond, s.inside))
     (AsksWithin-both asked_old asked_now asked_after (2 * pair.first + 1) (pair.last - (via + 1)) before after)
 
 -- the least end of the least first place

@@ -1,5 +1,5 @@
 -- Subpaths that are no shortest walks, and where they end.
---   IsRising t                   the lengths up to the places of a trail never fall; a place's number fits
+--   HasRisingSums t                   the lengths up to the places of a trail never fall; a place's number fits
 --   IsDetour o t i j d           the distance between two places is d, and the subpath isn't as long
 --   FindsDetour o t via i n p    of the ends after the via up to n, p has the least whose subpath from i is
 --                                a detour
@@ -15,7 +15,7 @@ use Rattle.road_model.specs.Fraction.{Fraction}
 use Rattle.road_model.specs.Places.{between, IsDistAt}
 use Rattle.road_model.specs.Tests.{IsTested, FailsLocal, NoneFails}
 
-pub record IsRising (t : Trail) : Type 0 where
+pub record HasRisingSums (t : Trail) : Type 0 where
   pub same_length : length t.sums ≡ length t.vertices
   pub few : length t.vertices < 2 ^ 32
   pub rising : (i j : ℕ) → i ≤ j → j < length t.vertices → slice_index t.sums i ≤ slice_index t.sums j
@@ -26,7 +26,7 @@ pub record IsDetour (o : Graph) (t : Trail) (i j d : ℕ) : Type 0 where
 
 pub record FindsDetour (o : Graph) (t : Trail) (via i n : ℕ) (pair : Pair) : Type 0 where
   pub here : pair.first ≡ i
-  pub behind : via < pair.last
+  pub beyond : via < pair.last
   pub within : pair.last ≤ n
   pub detour : IsDetour o t i pair.last pair.distance
   pub least : (j : ℕ) → via < j → j < pair.last → IsDistAt o t i j (between t i j)
@@ -36,7 +36,7 @@ TellsDetour o t i n result = MatchOption result (IsDistAt o t i n (between t i n
 
 pub record IsFailingStart (o : Graph) (f : Fraction) (l : ℕ) (t : Trail) (via : ℕ) (pair : Pair) : Type 0 where
   pub before : pair.first < via
-  pub behind : via < pair.last
+  pub beyond : via < pair.last
   pub inside : pair.last < length t.vertices
   pub below : (i j d : ℕ) → i < pair.first → FailsLocal o f l t i j d → ⊥
   pub tested : (j : ℕ) → via < j → j ≤ pair.last → IsTested f l t pair.first j

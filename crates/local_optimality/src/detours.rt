@@ -17,7 +17,7 @@ pub fn detour_to<O: Oracle>(
 ) -> Result<Option<u64>, NoMemory>
     requires joined { IsJoinedTrail (O.graph oracle.old) trail.now via_at }
     requires before { first < via_at }
-    requires behind { via_at ≤ reach }
+    requires beyond { via_at ≤ reach }
     requires inside { reach < length trail.now.vertices }
     ensures found { IfOk result (TellsDetour (O.graph oracle.old) trail.now first reach) }
     ensures same { O.graph oracle.new ≡ O.graph oracle.old }
@@ -45,7 +45,7 @@ pub fn least_end<O: Oracle>(
 ) -> Result<Pair, NoMemory>
     requires joined { IsJoinedTrail (O.graph oracle.old) trail.now via_at }
     requires before { first < via_at }
-    requires behind { via_at < reach }
+    requires beyond { via_at < reach }
     requires inside { reach < length trail.now.vertices }
     requires detour { IsDetour (O.graph oracle.old) trail.now first reach distance }
     ensures found { IfOk result (FindsDetour (O.graph oracle.old) trail.now via_at first reach) }

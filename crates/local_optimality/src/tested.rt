@@ -1,6 +1,6 @@
 ghost use Rattle.std.specs.Prelude.{◌≡◌, ◌<◌, ◌≤◌, ◌+◌, ◌↔◌, ℕ, length, IsTrue};
 ghost use Rattle.road_model.specs.Tests.{IsTested};
-ghost use Rattle.local_optimality.specs.Detour.{IsRising};
+ghost use Rattle.local_optimality.specs.Detour.{HasRisingSums};
 
 use path_tests::length_between;
 use road_model::{Ratio, Trail};
@@ -15,9 +15,9 @@ pub fn last_tested(
     first: u32,
     from: u32,
 ) -> u32
-    requires rising { IsRising trail.now }
+    requires rising { HasRisingSums trail.now }
     requires before { first < via_at }
-    requires behind { via_at ≤ from }
+    requires beyond { via_at ≤ from }
     requires inside { from < length trail.now.vertices }
     requires begun { (j : ℕ) → via_at < j → j ≤ from → IsTested alpha.now opt_len trail.now first j }
     ensures onward { from ≤ result }
@@ -38,7 +38,7 @@ pub fn last_tested(
 // The first place before the via whose subpath to the place after the via is tested; the via where none is. No
 // subpath round the via that begins before it is tested.
 pub fn first_round(trail: &Trail, via_at: u32, alpha: &Ratio, opt_len: u64) -> u32
-    requires rising { IsRising trail.now }
+    requires rising { HasRisingSums trail.now }
     requires inside { via_at < length trail.now.vertices }
     ensures within { result ≤ via_at }
     ensures untested { (i j : ℕ) → i < result → via_at < j → j < length trail.now.vertices →
@@ -58,7 +58,7 @@ pub fn first_round(trail: &Trail, via_at: u32, alpha: &Ratio, opt_len: u64) -> u
 
 // Whether a subpath of two arcs at least is short enough, or is without its first and its last arc.
 fn is_tested(trail: &Trail, alpha: &Ratio, opt_len: u64, first: u32, last: u32) -> bool
-    requires rising { IsRising trail.now }
+    requires rising { HasRisingSums trail.now }
     requires apart { first + 2 ≤ last }
     requires inside { last < length trail.now.vertices }
     ensures { IsTrue result ↔ IsTested alpha.now opt_len trail.now first last }

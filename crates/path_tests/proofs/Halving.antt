@@ -24,21 +24,21 @@ use Rattle.path_tests.proofs.Stretches.{stretch_in_back, stretch_passes}
 -- the excess over the distance never falls when a subpath round the via grows
 pub excess_rises : (o : Graph) (t : Trail) (via x i j y a b : ℕ) → IsJoinedTrail o t via → x ≤ i → i ≤ via → via ≤ j → j ≤ y → y < length t.vertices → IsDistAt o t x y a → IsDistAt o t i j b → between t i j + a ≤ between t x y + b
 excess_rises o t via x i j y a b h xi iv vj jy inside outer inner =
-    let front = (h.front x i xi iv).0 in
+    let prefix = (h.prefix x i xi iv).0 in
     let middle = inner.0 in
     let back = (h.back j y vj jy inside).0 in
     let rest : IsWalk o (vertex_at t i) (middle.path ++ back.path) (vertex_at t y) = IsWalk-append o middle.path back.path (vertex_at t i) (vertex_at t j) (vertex_at t y) middle.walk back.walk in
-    let whole : IsWalk o (vertex_at t x) (front.path ++ (middle.path ++ back.path)) (vertex_at t y) = IsWalk-append o front.path (middle.path ++ back.path) (vertex_at t x) (vertex_at t i) (vertex_at t y) front.walk rest in
-    let low : a ≤ walk_length o (front.path ++ (middle.path ++ back.path)) = outer.1 (front.path ++ (middle.path ++ back.path)) whole in
+    let whole : IsWalk o (vertex_at t x) (prefix.path ++ (middle.path ++ back.path)) (vertex_at t y) = IsWalk-append o prefix.path (middle.path ++ back.path) (vertex_at t x) (vertex_at t i) (vertex_at t y) prefix.walk rest in
+    let low : a ≤ walk_length o (prefix.path ++ (middle.path ++ back.path)) = outer.1 (prefix.path ++ (middle.path ++ back.path)) whole in
     let one : get_or t.sums x 0 ≤ get_or t.sums i 0 = h.rising x i xi (omega arith) in
     let two : get_or t.sums i 0 ≤ get_or t.sums j 0 = h.rising i j (omega arith) (omega arith) in
     let three : get_or t.sums j 0 ≤ get_or t.sums y 0 = h.rising j y jy inside in
-    omega (arith, walk_length-append o front.path (middle.path ++ back.path), walk_length-append o middle.path back.path, front.long, middle.long, back.long)
+    omega (arith, walk_length-append o prefix.path (middle.path ++ back.path), walk_length-append o middle.path back.path, prefix.long, middle.long, back.long)
 
 -- and a distance is no longer than the subpath
 pub no_longer : (o : Graph) (t : Trail) (via x y a : ℕ) → IsJoinedTrail o t via → x ≤ via → via ≤ y → y < length t.vertices → IsDistAt o t x y a → a ≤ between t x y
-no_longer o t via x y a h before behind inside outer =
-    let at : between t via via + a ≤ between t x y + 0 = excess_rises o t via x via via y a 0 h before (omega arith) (omega arith) behind inside outer (IsDist-itself o (vertex_at t via)) in
+no_longer o t via x y a h before beyond inside outer =
+    let at : between t via via + a ≤ between t x y + 0 = excess_rises o t via x via via y a 0 h before (omega arith) (omega arith) beyond inside outer (IsDist-itself o (vertex_at t via)) in
     omega arith
 
 -- an excess that is small enough for one length is for each greater one
@@ -62,7 +62,7 @@ pub rectangle_clears : (o : Graph) (e : Fraction) (t : Trail) (via : ℕ) (r : R
 rectangle_clears o e t via r distance h area outer low within i j d place fails =
     let rows = area.rows in
     let before = area.before in
-    let behind = area.behind in
+    let beyond = area.beyond in
     let columns = area.columns in
     let inside = area.inside in
     let i_low = place.low in
@@ -82,7 +82,7 @@ rectangle_clears o e t via r distance h area outer low within i j d place fails 
 pub pair_fails : (o : Graph) (e : Fraction) (t : Trail) (via : ℕ) (r : Rectangle) (distance : ℕ) → IsRectangle t via r → IsDistAt o t r.low r.to distance → Exceeds e (between t r.low r.to) distance → FailsStretch o e t r.low r.to distance
 pair_fails o e t via r distance area outer above =
     record {
-      rise = omega (arith, area.rows, area.before, area.behind, area.columns);
+      rise = omega (arith, area.rows, area.before, area.beyond, area.columns);
       inside = area.inside;
       dist = outer;
       above = above;
@@ -101,7 +101,7 @@ IsRectangle-half t via r h area half =
     record {
       rows = half.rows;
       before = omega (arith, half.high, area.before);
-      behind = omega (arith, half.from, area.behind);
+      beyond = omega (arith, half.from, area.beyond);
       columns = half.columns;
       inside = omega (arith, half.to, area.inside);
     }
@@ -275,23 +275,23 @@ IsRectangle-whole t via r h =
     let some = h.1 in
     let room = h.2 in
     subst (λ (x : Rectangle). IsRectangle t via x) (sym h.0)
-    (record { rows = some; before = omega arith; behind = omega arith; columns = omega arith; inside = omega arith })
+    (record { rows = some; before = omega arith; beyond = omega arith; columns = omega arith; inside = omega arith })
 
 IsPairOf-whole : (t : Trail) (via i j : ℕ) (r : Rectangle) → IsWholeRectangle t via (Some r) → i < via → via < j → j < length t.vertices → IsPairOf r i j
-IsPairOf-whole t via i j r h before behind inside =
+IsPairOf-whole t via i j r h before beyond inside =
     subst (λ (x : Rectangle). IsPairOf x i j) (sym h.0)
     (record { low = omega arith; high = before; from = omega arith; to = omega arith })
 
-stretch_in_front : (o : Graph) (e : Fraction) (t : Trail) (via i j d : ℕ) → IsJoinedTrail o t via → j ≤ via → FailsStretch o e t i j d → ⊥
-stretch_in_front o e t via i j d h le fails =
-    stretch_passes o e t i j (between t i j) (h.front i j (omega (arith, fails.rise)) le) (omega arith) d fails
+stretch_in_prefix : (o : Graph) (e : Fraction) (t : Trail) (via i j d : ℕ) → IsJoinedTrail o t via → j ≤ via → FailsStretch o e t i j d → ⊥
+stretch_in_prefix o e t via i j d h le fails =
+    stretch_passes o e t i j (between t i j) (h.prefix i j (omega (arith, fails.rise)) le) (omega arith) d fails
 
 -- a pair that fails is round the via
 around : (o : Graph) (e : Fraction) (t : Trail) (via i j d : ℕ) (r : Rectangle) → IsJoinedTrail o t via → IsWholeRectangle t via (Some r) → FailsStretch o e t i j d → IsPairOf r i j
 around o e t via i j d r h whole fails =
     ⊎_elim (λ (before : i < via).
-    ⊎_elim (λ (behind : via < j). IsPairOf-whole t via i j r whole before behind fails.inside)
-    (λ (le : j ≤ via). absurd (stretch_in_front o e t via i j d h le fails))
+    ⊎_elim (λ (beyond : via < j). IsPairOf-whole t via i j r whole before beyond fails.inside)
+    (λ (le : j ≤ via). absurd (stretch_in_prefix o e t via i j d h le fails))
     (cases_lt via j))
     (λ (le : via ≤ i). absurd (stretch_in_back o e t via i j d h le fails))
     (cases_lt i via)
@@ -301,7 +301,7 @@ none_of_whole o e t via r h whole none i j d fails = none i j d (around o e t vi
 
 pub none_without : (o : Graph) (e : Fraction) (t : Trail) (via : ℕ) → IsJoinedTrail o t via → IsWholeRectangle t via None → NoneFails (FailsStretch o e t)
 none_without o e t via h (inl first) i j d fails = stretch_in_back o e t via i j d h (omega arith) fails
-none_without o e t via h (inr last) i j d fails = stretch_in_front o e t via i j d h (omega (arith, fails.inside)) fails
+none_without o e t via h (inr last) i j d fails = stretch_in_prefix o e t via i j d h (omega (arith, fails.inside)) fails
 
 pub finds_in_whole : (o : Graph) (e : Fraction) (t : Trail) (via : ℕ) (r : Rectangle) (found : Option Pair) → IsJoinedTrail o t via → IsWholeRectangle t via (Some r) → FindsIn (FailsStretch o e t) r found → FindsLeast (FailsStretch o e t) found
 finds_in_whole o e t via r None h whole none = none_of_whole o e t via r h whole none
@@ -345,7 +345,7 @@ pub outer_longer : (o : Graph) (t : Trail) (via : ℕ) (r : Rectangle) (distance
 outer_longer o t via r distance outer h area dist is =
     let rows = area.rows in
     let before = area.before in
-    let behind = area.behind in
+    let beyond = area.beyond in
     let columns = area.columns in
     let low : distance ≤ between t r.low r.to = no_longer o t via r.low r.to distance h (omega arith) (omega arith) area.inside dist in
     omega arith
@@ -370,7 +370,7 @@ pub record IsAskable (o : Graph) (t : Trail) (h : Rectangle) : Type 0 where
 pub askable : (old now : Graph) (t : Trail) (via : ℕ) (h : Rectangle) → now ≡ old → IsJoinedTrail old t via → IsRectangle t via h → IsAskable now t h
 askable old now t via h same joined area =
     let start : h.low < length t.vertices = omega (arith, area.rows, area.before, joined.via_inside) in
-    let rise : h.low ≤ h.to = omega (arith, area.rows, area.before, area.behind, area.columns) in
+    let rise : h.low ≤ h.to = omega (arith, area.rows, area.before, area.beyond, area.columns) in
     subst (λ (g : Graph). IsAskable g t h) (sym same)
     (record {
       start = start;

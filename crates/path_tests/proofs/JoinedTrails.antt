@@ -7,7 +7,7 @@ use Rattle.road_model.specs.Dist.{IsShortest, HaveSameDist}
 use Rattle.road_model.specs.Places.{places, sums, trail_of, vertex_at, between, IsDistAt}
 use Rattle.road_model.specs.ViaWalk.{IsViaWalk}
 use Rattle.road_model.proofs.Walks.{IsWalk-append, IsWalk-inside, walk_length-append}
-use Rattle.road_model.proofs.Parts.{length-places, length-sums, place_after, Parted, parted, dist_in_front, dist_in_back}
+use Rattle.road_model.proofs.Parts.{length-places, length-sums, place_after, Parted, parted, dist_in_prefix, dist_in_back}
 use Rattle.path_tests.specs.JoinedTrail.{IsJoinedTrail}
 
 -- the lengths so far never fall
@@ -32,10 +32,10 @@ sums_rise g k (a ∷ p) (suc i) (suc j) le inside =
 -- each place of a walk is a vertex of its graph
 place_inside : (g : Graph) (u e : ℕ) (p : List ℕ) (i : ℕ) → IsGraph g → IsVertex g.vertices u → IsWalk g u p e → i ≤ length p → IsVertex g.vertices (vertex_at (trail_of g u p) i)
 place_inside g u e p i sound inside walk le =
-    let front : Parted g u p 0 i = parted g u e p 0 i walk (omega arith) le in
+    let prefix : Parted g u p 0 i = parted g u e p 0 i walk (omega arith) le in
     let start : vertex_at (trail_of g u p) 0 ≡ u = place_after g [] p u u refl in
-    IsWalk-inside g front.part u (vertex_at (trail_of g u p) i) sound inside
-    (subst (λ (x : ℕ). IsWalk g x front.part (vertex_at (trail_of g u p) i)) start front.walk)
+    IsWalk-inside g prefix.part u (vertex_at (trail_of g u p) i) sound inside
+    (subst (λ (x : ℕ). IsWalk g x prefix.part (vertex_at (trail_of g u p) i)) start prefix.walk)
 
 -- within a subpath as long as the distance between its ends, each subpath is as long as that between its own
 inner_part : (g : Graph) (u e : ℕ) (p : List ℕ) (i a b j : ℕ) → IsWalk g u p e → i ≤ a → a ≤ b → b ≤ j → j ≤ length p → IsDistAt g (trail_of g u p) i j (between (trail_of g u p) i j) → IsDistAt g (trail_of g u p) a b (between (trail_of g u p) a b)
@@ -43,20 +43,20 @@ inner_part g u e p i a b j walk ia ab bj inside h =
     let t : Trail = trail_of g u p in
     let before : Parted g u p i a = parted g u e p i a walk ia (omega arith) in
     let middle : Parted g u p a b = parted g u e p a b walk ab (omega arith) in
-    let behind : Parted g u p b j = parted g u e p b j walk bj inside in
+    let beyond : Parted g u p b j = parted g u e p b j walk bj inside in
     let low = sums_rise g 0 p i a ia (omega arith) in
     let mid = sums_rise g 0 p a b ab (omega arith) in
     let high = sums_rise g 0 p b j bj inside in (
       record { path = middle.part; walk = middle.walk; long = middle.long },
       (λ q other.
-          let rest : IsWalk g (vertex_at (trail_of g u p) a) (q ++ behind.part) (vertex_at (trail_of g u p) j) = IsWalk-append g q behind.part (vertex_at (trail_of g u p) a) (vertex_at (trail_of g u p) b) (vertex_at (trail_of g u p) j) other behind.walk in
-          let whole = h.1 (before.part ++ (q ++ behind.part)) (IsWalk-append g before.part (q ++ behind.part) (vertex_at (trail_of g u p) i) (vertex_at (trail_of g u p) a) (vertex_at (trail_of g u p) j) before.walk rest) in
-          omega (arith, walk_length-append g before.part (q ++ behind.part), walk_length-append g q behind.part, before.long, behind.long)),
+          let rest : IsWalk g (vertex_at (trail_of g u p) a) (q ++ beyond.part) (vertex_at (trail_of g u p) j) = IsWalk-append g q beyond.part (vertex_at (trail_of g u p) a) (vertex_at (trail_of g u p) b) (vertex_at (trail_of g u p) j) other beyond.walk in
+          let whole = h.1 (before.part ++ (q ++ beyond.part)) (IsWalk-append g before.part (q ++ beyond.part) (vertex_at (trail_of g u p) i) (vertex_at (trail_of g u p) a) (vertex_at (trail_of g u p) j) before.walk rest) in
+          omega (arith, walk_length-append g before.part (q ++ beyond.part), walk_length-append g q beyond.part, before.long, beyond.long)),
     )
 
 joined_walks : (o g : Graph) (s m e : ℕ) (f b : List ℕ) → HaveSameDist g o → IsGraph g → IsVertex g.vertices s → IsShortest g s f m → IsShortest g m b e → length (f ++ b) + 1 < 2 ^ 32 → IsJoinedTrail o (trail_of g s (f ++ b)) (length f)
-joined_walks o g s m e f b same sound inside front back few =
-    let walk : IsWalk g s (f ++ b) e = IsWalk-append g f b s m e front.walk back.walk in
+joined_walks o g s m e f b same sound inside prefix back few =
+    let walk : IsWalk g s (f ++ b) e = IsWalk-append g f b s m e prefix.walk back.walk in
     let long : length (places g s (f ++ b)) ≡ length (f ++ b) + 1 = length-places g s (f ++ b) in
     let sums_long : length (sums g 0 (f ++ b)) ≡ length (f ++ b) + 1 = length-sums g 0 (f ++ b) in
     let parts : length (f ++ b) ≡ length f + length b = length-append f b in
@@ -69,8 +69,8 @@ joined_walks o g s m e f b same sound inside front back few =
       reached = (λ i j le lt none.
           let part : Parted g s (f ++ b) i j = parted g s e (f ++ b) i j walk le (omega arith) in
           (same.dist (vertex_at (trail_of g s (f ++ b)) i) (vertex_at (trail_of g s (f ++ b)) j) None).1 none part.part part.walk);
-      front = (λ i j le lt. (same.dist (vertex_at (trail_of g s (f ++ b)) i) (vertex_at (trail_of g s (f ++ b)) j) (Some (between (trail_of g s (f ++ b)) i j))).0 (dist_in_front g s m f b i j front le lt));
-      back = (λ i j behind le lt. (same.dist (vertex_at (trail_of g s (f ++ b)) i) (vertex_at (trail_of g s (f ++ b)) j) (Some (between (trail_of g s (f ++ b)) i j))).0 (dist_in_back g s m e f b i j front.walk back behind le (omega arith)));
+      prefix = (λ i j le lt. (same.dist (vertex_at (trail_of g s (f ++ b)) i) (vertex_at (trail_of g s (f ++ b)) j) (Some (between (trail_of g s (f ++ b)) i j))).0 (dist_in_prefix g s m f b i j prefix le lt));
+      back = (λ i j beyond le lt. (same.dist (vertex_at (trail_of g s (f ++ b)) i) (vertex_at (trail_of g s (f ++ b)) j) (Some (between (trail_of g s (f ++ b)) i j))).0 (dist_in_back g s m e f b i j prefix.walk back beyond le (omega arith)));
       inner = (λ i x y j ix xy yj lt h.
           (same.dist (vertex_at (trail_of g s (f ++ b)) x) (vertex_at (trail_of g s (f ++ b)) y) (Some (between (trail_of g s (f ++ b)) x y))).0
           (inner_part g s e (f ++ b) i x y j walk ix xy yj (omega arith)
@@ -81,5 +81,5 @@ joined_walks o g s m e f b same sound inside front back few =
 pub IsJoinedTrail-from_via_walk : (o : Graph) (t : Trail) (via : ℕ) → IsViaWalk o t via → IsJoinedTrail o t via
 IsJoinedTrail-from_via_walk o t via w =
     subst (λ (x : Trail). IsJoinedTrail o x via) (sym w.is)
-    (subst (λ (n : ℕ). IsJoinedTrail o (trail_of w.graph w.source (w.front ++ w.back)) n) (sym w.place)
-    (joined_walks o w.graph w.source w.middle w.target w.front w.back w.same w.sound w.inside w.front_shortest w.back_shortest w.few))
+    (subst (λ (n : ℕ). IsJoinedTrail o (trail_of w.graph w.source (w.prefix ++ w.back)) n) (sym w.place)
+    (joined_walks o w.graph w.source w.middle w.target w.prefix w.back w.same w.sound w.inside w.prefix_shortest w.back_shortest w.few))

@@ -15,6 +15,6 @@ pub record IsJoinedTrail (o : Graph) (t : Trail) (via : ℕ) : Type 0 where
   pub rising : (i j : ℕ) → i ≤ j → j < length t.vertices → slice_index t.sums i ≤ slice_index t.sums j
   pub vertices : (i : ℕ) → i < length t.vertices → IsVertex o.vertices (vertex_at t i)
   pub reached : (i j : ℕ) → i ≤ j → j < length t.vertices → NoWalk o (vertex_at t i) (vertex_at t j) → ⊥
-  pub front : (i j : ℕ) → i ≤ j → j ≤ via → IsDistAt o t i j (between t i j)
+  pub prefix : (i j : ℕ) → i ≤ j → j ≤ via → IsDistAt o t i j (between t i j)
   pub back : (i j : ℕ) → via ≤ i → i ≤ j → j < length t.vertices → IsDistAt o t i j (between t i j)
   pub inner : (i a b j : ℕ) → i ≤ a → a ≤ b → b ≤ j → j < length t.vertices → IsDistAt o t i j (between t i j) → IsDistAt o t a b (between t a b)

@@ -23,7 +23,7 @@ use Rattle.path_tests.specs.Passing.{HasFailure}
 pub record IsRectangle (t : Trail) (via : ℕ) (r : Rectangle) : Type 0 where
   pub rows : r.low < r.high
   pub before : r.high ≤ via
-  pub behind : via < r.from
+  pub beyond : via < r.from
   pub columns : r.from ≤ r.to
   pub inside : r.to < length t.vertices
 

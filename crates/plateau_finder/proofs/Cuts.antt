@@ -18,15 +18,15 @@ between_cuts (a ∷ f) b (c ∷ h) k same le =
     record { middle = m.middle; later = cc; rest = m.rest }
 
 pub record Last (l : List ℕ) : Type 0 where
-  pub front : List ℕ
+  pub prefix : List ℕ
   pub item : ℕ
-  pub is : l ≡ front ++ item ∷ []
+  pub is : l ≡ prefix ++ item ∷ []
 
 pub last_item : (a : ℕ) (l : List ℕ) → Last (a ∷ l)
-last_item a [] = record { front = []; item = a; is = refl }
+last_item a [] = record { prefix = []; item = a; is = refl }
 last_item a (b ∷ l) =
     let rest : Last (b ∷ l) = last_item b l in
-    record { front = a ∷ rest.front; item = rest.item; is = ap (λ (x : List ℕ). a ∷ x) rest.is }
+    record { prefix = a ∷ rest.prefix; item = rest.item; is = ap (λ (x : List ℕ). a ∷ x) rest.is }
 
 pub nothing_left : (l : List ℕ) → length l ≡ 0 → l ≡ []
 nothing_left [] is = refl

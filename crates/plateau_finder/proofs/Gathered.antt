@@ -15,7 +15,7 @@ use Rattle.tree_search.specs.Ball.{IsWithin}
 use Rattle.canonical_trees.specs.Trees.{Trees, IsMembersFrom}
 use Rattle.canonical_trees.proofs.ThroughVertex.{IsVia-unique}
 use Rattle.plateau_finder.specs.declared.plateau.Plateau.{Plateau}
-use Rattle.plateau_finder.specs.Plateaus.{IsInBoth, IsThrough, IsPlateauOf, IsListed, HasPlateau, ArePlateaus, IsPlateauAt}
+use Rattle.plateau_finder.specs.Plateaus.{IsInBoth, IsThrough, IsPlateauOf, IsListedPlateau, HasPlateau, ArePlateaus, IsPlateauAt}
 use Rattle.plateau_finder.specs.Links.{IsPrevious, IsChainFrom, IsChainBack, HasLinkInto, HasStart, HasLeast, IsStart, StartsAt, AreGathered}
 use Rattle.plateau_finder.proofs.LinkedVias.{via_before}
 use Rattle.plateau_finder.proofs.WholeChains.{walk_through, same_first}
@@ -31,7 +31,7 @@ Covers ts bound cs v = (p : List ℕ) → IsThrough ts v p → IsInBoth ts v →
 
 -- the plateaus that begin at the first i of these vertices
 pub record IsGathering (ts : Trees) (bound : Option ℕ) (vertices : List ℕ) (i : ℕ) (cs : List Plateau) : Type 0 where
-  pub each : All (IsListed ts bound) cs
+  pub each : All (IsListedPlateau ts bound) cs
   pub begin : All (λ (c : Plateau). IsPrevious ts c.first None) cs
   pub from : All (λ (c : Plateau). StandsBefore vertices i c.first) cs
   pub apart : AllPairs (λ (a b : Plateau). a.first ≢ b.first) cs
@@ -41,7 +41,7 @@ pub gathering_start : (ts : Trees) (bound : Option ℕ) (vertices : List ℕ) (c
 gathering_start ts bound vertices cs none =
     subst (λ (l : List Plateau). IsGathering ts bound vertices 0 l) (sym none)
     (record {
-      each = All-nil (IsListed ts bound);
+      each = All-nil (IsListedPlateau ts bound);
       begin = All-nil (λ (c : Plateau). IsPrevious ts c.first None);
       from = All-nil (λ (c : Plateau). StandsBefore vertices 0 c.first);
       apart = (λ i j d lt inside. absurd (let none : j < 0 = inside in omega arith));
@@ -106,7 +106,7 @@ gathering_some ts bound vertices i v cs now o c ascending h here found some same
     let new : HasStart (cs ++ c ∷ []) v = record { plateau = c; listed = Contains-push cs c; is = start.is_first } in
     subst (λ (l : List Plateau). IsGathering ts bound vertices (i + 1) l) (sym same)
     (record {
-      each = All-push (IsListed ts bound) cs c h.each start.listed;
+      each = All-push (IsListedPlateau ts bound) cs c h.each start.listed;
       begin = All-push (λ (x : Plateau). IsPrevious ts x.first None) cs c h.begin start.begins;
       from = All-push (λ (x : Plateau). StandsBefore vertices (i + 1) x.first) cs c (All-weaker (λ (x : Plateau). StandsBefore vertices i x.first) (λ (x : Plateau). StandsBefore vertices (i + 1) x.first) (stands_later vertices i) cs h.from) own;
       apart = all_pairs_push (λ (a b : Plateau). a.first ≢ b.first) cs c h.apart (λ k d lt.
@@ -119,14 +119,14 @@ gathering_some ts bound vertices i v cs now o c ascending h here found some same
     })
 
 -- the plateau of a walk, from its first vertex
-of_start : (ts : Trees) (bound : Option ℕ) (cs : List Plateau) (v : ℕ) (p : List ℕ) → All (IsListed ts bound) cs → IsThrough ts v p → HasStart cs v → HasPlateau ts p cs
+of_start : (ts : Trees) (bound : Option ℕ) (cs : List Plateau) (v : ℕ) (p : List ℕ) → All (IsListedPlateau ts bound) cs → IsThrough ts v p → HasStart cs v → HasPlateau ts p cs
 of_start ts bound cs v p each via h =
-    let own : IsListed ts bound h.plateau = All-contains (IsListed ts bound) cs h.plateau each h.listed in
+    let own : IsListedPlateau ts bound h.plateau = All-contains (IsListedPlateau ts bound) cs h.plateau each h.listed in
     let walk : own.walk ≡ p = IsVia-unique ts.graph ts.source ts.target v own.walk p (subst (λ (x : ℕ). IsThrough ts x own.walk) h.is own.is.first) via in
     record { plateau = h.plateau; listed = h.listed; is = subst (λ (q : List ℕ). IsPlateauOf ts q h.plateau) walk own.is }
 
 -- back along the links, a walk comes to where its plateau begins
-back_to_start : (n : ℕ) (ts : Trees) (bound : Option ℕ) (cs : List Plateau) (v : ℕ) (p : List ℕ) → IsGraph ts.graph → All (IsListed ts bound) cs → ((w : ℕ) → IsInBoth ts w → Covers ts bound cs w) → (h : IsThrough ts v p) → length h.front < n → IsInBoth ts v → IsWithin bound (walk_length ts.graph p) → HasPlateau ts p cs
+back_to_start : (n : ℕ) (ts : Trees) (bound : Option ℕ) (cs : List Plateau) (v : ℕ) (p : List ℕ) → IsGraph ts.graph → All (IsListedPlateau ts bound) cs → ((w : ℕ) → IsInBoth ts w → Covers ts bound cs w) → (h : IsThrough ts v p) → length h.prefix < n → IsInBoth ts v → IsWithin bound (walk_length ts.graph p) → HasPlateau ts p cs
 back_to_start zero ts bound cs v p sound each covers h lt inside within = absurd (omega arith)
 back_to_start (suc n) ts bound cs v p sound each covers h lt inside within =
     ⊎_elim
@@ -136,7 +136,7 @@ back_to_start (suc n) ts bound cs v p sound each covers h lt inside within =
     (λ (start : HasStart cs v). of_start ts bound cs v p each h start)
     (covers v inside p h inside within)
 
-leasts_apart : (ts : Trees) (bound : Option ℕ) (a b : Plateau) → IsGraph ts.graph → IsListed ts bound a → IsListed ts bound b → IsPrevious ts a.first None → IsPrevious ts b.first None → a.first ≢ b.first → a.least ≢ b.least
+leasts_apart : (ts : Trees) (bound : Option ℕ) (a b : Plateau) → IsGraph ts.graph → IsListedPlateau ts bound a → IsListedPlateau ts bound b → IsPrevious ts a.first None → IsPrevious ts b.first None → a.first ≢ b.first → a.least ≢ b.least
 leasts_apart ts bound a b sound h k begins_a begins_b apart same =
     let walk : k.walk ≡ h.walk = IsVia-unique ts.graph ts.source ts.target a.least k.walk h.walk (subst (λ (x : ℕ). IsThrough ts x k.walk) (sym same) k.is.least) h.is.least in
     apart (same_first ts h.walk a b sound begins_a begins_b h.is (subst (λ (q : List ℕ). IsPlateauOf ts q b) walk k.is))
@@ -148,7 +148,7 @@ gathered_all ts bound vertices members n cs sound ball same le h =
     h.covers has.0 w (omega (arith, has.1)) (slice_get-get_or vertices has.0 w has.1 ∙ ap (λ (x : ℕ). Some x) has.2)) in
     record {
       each = h.each;
-      every = (λ v p via inside within. back_to_start (suc (length via.front)) ts bound cs v p sound h.each covers via (omega arith) inside within);
+      every = (λ v p via inside within. back_to_start (suc (length via.prefix)) ts bound cs v p sound h.each covers via (omega arith) inside within);
       apart = (λ i j d lt inside.
           leasts_apart ts bound (get_or cs i d) (get_or cs j d) sound (h.each i d (omega arith)) (h.each j d inside) (h.begin i d (omega arith)) (h.begin j d inside) (h.apart i j d lt inside));
     }
@@ -191,7 +191,7 @@ in_order_of ts bound xs ys h moved order =
     let distinct : IsDistinct same_least xs = IsDistinct-from_apart same_least xs (λ i j d lt inside. ne_eqb (get_or xs i d).least (get_or xs j d).least (h.apart i j d lt inside)) in
     let still : IsDistinct same_least ys = IsDistinct-IsPermutation same_least (λ a b. eqb-flips a.least b.least) xs ys moved distinct in
     record {
-      each = All-permutation (IsListed ts bound) xs ys moved h.each;
+      each = All-permutation (IsListedPlateau ts bound) xs ys moved h.each;
       every = (λ v p via inside within. HasPlateau-permutation ts p xs ys moved (h.every v p via inside within));
       rising = (λ i j d lt inside. rises (get_or ys i d) (get_or ys j d) (order i j d (omega arith) inside) (distinct_apart ys still i j d lt inside));
     }
@@ -210,7 +210,7 @@ has_least ts cs v c sound source all inside back chain =
 
 pub plateau_found : (ts : Trees) (cs : List Plateau) (v : ℕ) (c found : Plateau) → ArePlateaus ts None cs → IsInBoth ts v → IsChainBack ts v c.first → IsChainFrom ts c → Contains cs found → found.least ≡ c.least → IsPlateauAt ts cs v found
 plateau_found ts cs v c found all inside back chain listed same =
-    let own : IsListed ts None found = All-contains (IsListed ts None) cs found all.each listed in
+    let own : IsListedPlateau ts None found = All-contains (IsListedPlateau ts None) cs found all.each listed in
     record {
       listed = listed;
       inside = inside;

@@ -22,7 +22,7 @@ no_link_at_target ts v l =
 
 no_link_to_source : (ts : Trees) (u : ℕ) → IsLink ts u ts.source → ⊥
 no_link_to_source ts u l =
-    no_last l.front l.arc (IsFirst-unique ts.graph ts.source ts.source (l.front ++ l.arc ∷ []) [] l.first_on (IsFirst-nil ts.graph ts.source))
+    no_last l.prefix l.arc (IsFirst-unique ts.graph ts.source ts.source (l.prefix ++ l.arc ∷ []) [] l.first_on (IsFirst-nil ts.graph ts.source))
 
 -- one arc number, one arc
 same_row : (g : Graph) (a b : ℕ) (r x : ArcRow) → a ≡ b → arc_at g a ≡ Some r → arc_at g b ≡ Some x → r ≡ x
@@ -40,7 +40,7 @@ step_on_link ts u v x h l =
 
 step_back_on_link : (ts : Trees) (u v : ℕ) (x : Step) → IsLastStep ts.graph ts.radius ts.source v x → (l : IsLink ts u v) → (x.arc ≡ l.arc) × (x.head ≡ u)
 step_back_on_link ts u v x h l =
-    let parts = same_last h.front l.front x.arc l.arc (IsFirst-unique ts.graph ts.source v (h.front ++ x.arc ∷ []) (l.front ++ l.arc ∷ []) h.path l.first_on) in
+    let parts = same_last h.prefix l.prefix x.arc l.arc (IsFirst-unique ts.graph ts.source v (h.prefix ++ x.arc ∷ []) (l.prefix ++ l.arc ∷ []) h.path l.first_on) in
     let walk : IsWalk ts.graph u (l.arc ∷ []) v = link_walk ts u v l in
     let rows = same_row ts.graph x.arc l.arc (record { tail = x.head; head = v; length = x.length }) walk.0 parts.1 h.arc walk.1 in
     (parts.1, ap (λ (r : ArcRow). r.tail) rows ∙ walk.2)
@@ -73,17 +73,17 @@ next_found ts u x y inside step back same =
     record {
       link = record {
         arc = x.arc;
-        front = back.front;
+        prefix = back.prefix;
         back = step.back;
-        first = subst (λ (n : ℕ). IsFirst ts.graph ts.source back.front n) tail back.behind;
+        first = subst (λ (n : ℕ). IsFirst ts.graph ts.source back.prefix n) tail back.beyond;
         last = step.path;
-        first_on = subst (λ (a : ℕ). IsFirst ts.graph ts.source (back.front ++ a ∷ []) x.head) same back.path;
-        last_on = step.behind;
+        first_on = subst (λ (a : ℕ). IsFirst ts.graph ts.source (back.prefix ++ a ∷ []) x.head) same back.path;
+        last_on = step.beyond;
       };
       tail_inside = inside;
       head_inside = record {
         from = back.inside;
-        to = inside_after ts.graph ts.radius u x.head ts.target (x.arc ∷ []) step.back step.path step.behind inside.to;
+        to = inside_after ts.graph ts.radius u x.head ts.target (x.arc ∷ []) step.back step.path step.beyond inside.to;
       };
     }
 
@@ -115,15 +115,15 @@ previous_found ts v x y inside step onward same =
     record {
       link = record {
         arc = x.arc;
-        front = step.front;
+        prefix = step.prefix;
         back = onward.back;
-        first = step.behind;
+        first = step.beyond;
         last = subst (λ (a : ℕ). IsLast ts.graph x.head (a ∷ onward.back) ts.target) same onward.path;
         first_on = step.path;
-        last_on = subst (λ (n : ℕ). IsLast ts.graph n onward.back ts.target) head onward.behind;
+        last_on = subst (λ (n : ℕ). IsLast ts.graph n onward.back ts.target) head onward.beyond;
       };
       tail_inside = record {
-        from = inside_before ts.graph ts.radius ts.source x.head v step.front (x.arc ∷ []) step.path step.behind inside.from;
+        from = inside_before ts.graph ts.radius ts.source x.head v step.prefix (x.arc ∷ []) step.path step.beyond inside.from;
         to = onward.inside;
       };
       head_inside = inside;

@@ -13,7 +13,7 @@ use Rattle.canonical_trees.proofs.CanonicalExists.{first_of_dist, last_of_dist}
 use Rattle.canonical_trees.proofs.CanonicalParts.{within_less}
 use Rattle.canonical_trees.proofs.ThroughVertex.{via_parts, via_length}
 use Rattle.plateau_finder.specs.declared.plateau.Plateau.{Plateau}
-use Rattle.plateau_finder.specs.Plateaus.{IsInBoth, IsThrough, IsPlateauOf, IsListed, IsOwnPlateau}
+use Rattle.plateau_finder.specs.Plateaus.{IsInBoth, IsThrough, IsPlateauOf, IsListedPlateau, IsOwnPlateau}
 use Rattle.plateau_finder.specs.Links.{IsLink, IsLinkInside, IsNext, IsPrevious, IsChainFrom, IsChainBack, HasLinkInto, IsStart, StartsAt}
 use Rattle.plateau_finder.proofs.LinkedVias.{same_place, farther, later_links, earlier_links, link_walk, via_on, via_before}
 
@@ -21,10 +21,10 @@ use Rattle.plateau_finder.proofs.LinkedVias.{same_place, farther, later_links, e
 pub link_farther : (ts : Trees) (u v a b : ℕ) → IsGraph ts.graph → IsLink ts u v → IsDist ts.graph ts.source u (Some a) → IsDist ts.graph ts.source v (Some b) → a < b
 link_farther ts u v a b sound l da db =
     let g = ts.graph in
-    let one : walk_length ts.graph l.front ≡ a = IsDist-same ts.graph ts.source u (walk_length ts.graph l.front) a (dist_of_shortest ts.graph ts.source u l.front l.first.shortest) da in
-    let two : walk_length ts.graph (l.front ++ l.arc ∷ []) ≡ b = IsDist-same ts.graph ts.source v (walk_length ts.graph (l.front ++ l.arc ∷ [])) b (dist_of_shortest ts.graph ts.source v (l.front ++ l.arc ∷ []) l.first_on.shortest) db in
+    let one : walk_length ts.graph l.prefix ≡ a = IsDist-same ts.graph ts.source u (walk_length ts.graph l.prefix) a (dist_of_shortest ts.graph ts.source u l.prefix l.first.shortest) da in
+    let two : walk_length ts.graph (l.prefix ++ l.arc ∷ []) ≡ b = IsDist-same ts.graph ts.source v (walk_length ts.graph (l.prefix ++ l.arc ∷ [])) b (dist_of_shortest ts.graph ts.source v (l.prefix ++ l.arc ∷ []) l.first_on.shortest) db in
     let some : 1 ≤ walk_length ts.graph (l.arc ∷ []) = walk_length-positive ts.graph l.arc [] u v sound (link_walk ts u v l) in
-    omega (arith, walk_length-append ts.graph l.front (l.arc ∷ []))
+    omega (arith, walk_length-append ts.graph l.prefix (l.arc ∷ []))
 
 pub link_nearer : (ts : Trees) (u v a b : ℕ) → IsGraph ts.graph → IsLink ts u v → IsDist ts.graph u ts.target (Some a) → IsDist ts.graph v ts.target (Some b) → b < a
 link_nearer ts u v a b sound l da db =
@@ -37,7 +37,7 @@ link_nearer ts u v a b sound l da db =
 pub record OnChain (ts : Trees) (p : List ℕ) (last least : ℕ) : Type 0 where
   pub here : IsThrough ts last p
   pub name : IsThrough ts least p
-  pub lowest : (v : ℕ) (h : IsThrough ts v p) → IsInBoth ts v → length h.front ≤ length here.front → least ≤ v
+  pub lowest : (v : ℕ) (h : IsThrough ts v p) → IsInBoth ts v → length h.prefix ≤ length here.prefix → least ≤ v
 
 pub record IsChainSoFar (ts : Trees) (first last least left : ℕ) : Type 0 where
   pub last_inside : IsInBoth ts last
@@ -47,23 +47,23 @@ pub record IsChainSoFar (ts : Trees) (first last least left : ℕ) : Type 0 wher
   pub on : (p : List ℕ) → IsThrough ts first p → OnChain ts p last least
 
 -- no via in both balls is before the first vertex of a chain, nor after its last
-none_before : (ts : Trees) (first v : ℕ) (p : List ℕ) → IsGraph ts.graph → IsInBoth ts first → IsPrevious ts first None → (k : IsThrough ts first p) (h : IsThrough ts v p) → IsInBoth ts v → length k.front ≤ length h.front
+none_before : (ts : Trees) (first v : ℕ) (p : List ℕ) → IsGraph ts.graph → IsInBoth ts first → IsPrevious ts first None → (k : IsThrough ts first p) (h : IsThrough ts v p) → IsInBoth ts v → length k.prefix ≤ length h.prefix
 none_before ts first v p sound in_first begins k h in_v =
     ⊎_elim
-    (λ (lt : length h.front < length k.front).
+    (λ (lt : length h.prefix < length k.prefix).
     let into : HasLinkInto ts first = earlier_links ts v first p sound h k in_v in_first lt in
     absurd (begins into.tail into.link))
-    (λ (le : length k.front ≤ length h.front). le)
-    (cases_lt (length h.front) (length k.front))
+    (λ (le : length k.prefix ≤ length h.prefix). le)
+    (cases_lt (length h.prefix) (length k.prefix))
 
-none_behind : (ts : Trees) (last v : ℕ) (p : List ℕ) → IsGraph ts.graph → IsInBoth ts last → IsNext ts last None → (k : IsThrough ts last p) (h : IsThrough ts v p) → IsInBoth ts v → length h.front ≤ length k.front
-none_behind ts last v p sound in_last ends k h in_v =
+none_beyond : (ts : Trees) (last v : ℕ) (p : List ℕ) → IsGraph ts.graph → IsInBoth ts last → IsNext ts last None → (k : IsThrough ts last p) (h : IsThrough ts v p) → IsInBoth ts v → length h.prefix ≤ length k.prefix
+none_beyond ts last v p sound in_last ends k h in_v =
     ⊎_elim
-    (λ (lt : length k.front < length h.front).
+    (λ (lt : length k.prefix < length h.prefix).
     let out = later_links ts last v p sound k h in_last in_v lt in
     absurd (ends out.head out.link))
-    (λ (le : length h.front ≤ length k.front). le)
-    (cases_lt (length k.front) (length h.front))
+    (λ (le : length h.prefix ≤ length k.prefix). le)
+    (cases_lt (length k.prefix) (length h.prefix))
 
 pub chain_start : (ts : Trees) (first left : ℕ) → IsGraph ts.graph → IsInBoth ts first → IsPrevious ts first None → IsDist ts.graph first ts.target (Some left) → IsChainSoFar ts first first first left
 chain_start ts first left sound inside begins dist =
@@ -76,7 +76,7 @@ chain_start ts first left sound inside begins dist =
         here = k;
         name = k;
         lowest = (λ v h in_v le.
-            let ge : length k.front ≤ length h.front = none_before ts first v p sound inside begins k h in_v in
+            let ge : length k.prefix ≤ length h.prefix = none_before ts first v p sound inside begins k h in_v in
             let same : first ≡ v = same_place ts first v p k h (omega arith) in
             omega arith);
       });
@@ -100,13 +100,13 @@ on_more ts p last next least now sound l lesser h =
           (λ (same : now ≡ next). subst (λ (x : ℕ). IsThrough ts x p) (sym same) on.through)
           lesser.one;
       lowest = (λ v k in_v le. ⊎_elim
-          (λ (behind : length h.here.front < length k.front).
+          (λ (beyond : length h.here.prefix < length k.prefix).
           let same : next ≡ v = same_place ts next v p on.through k (omega arith) in
           omega arith)
-          (λ (before : length k.front ≤ length h.here.front).
+          (λ (before : length k.prefix ≤ length h.here.prefix).
           let old : least ≤ v = h.lowest v k in_v before in
           omega arith)
-          (cases_lt (length h.here.front) (length k.front)));
+          (cases_lt (length h.here.prefix) (length k.prefix)));
     }
 
 pub chain_more : (ts : Trees) (first last next least now left rest : ℕ) → IsGraph ts.graph → IsLinkInside ts last next → IsLesser least next now → IsDist ts.graph next ts.target (Some rest) → IsChainSoFar ts first last least left → IsChainSoFar ts first next now rest
@@ -132,9 +132,9 @@ inside_of_within ts v p h within =
     let parts = via_parts ts.graph ts.source ts.target v p h in
     record {
       from = record {
-        distance = walk_length ts.graph h.front;
-        dist = dist_of_shortest ts.graph ts.source v h.front h.first.shortest;
-        within = within_less ts.radius (walk_length ts.graph h.front) (walk_length ts.graph p) (omega (arith, parts)) within;
+        distance = walk_length ts.graph h.prefix;
+        dist = dist_of_shortest ts.graph ts.source v h.prefix h.first.shortest;
+        within = within_less ts.radius (walk_length ts.graph h.prefix) (walk_length ts.graph p) (omega (arith, parts)) within;
       };
       to = record {
         distance = walk_length ts.graph h.back;
@@ -157,9 +157,9 @@ spans ts p first last least sound in_first in_last begins ends k h =
       ends = h.here;
       between = (λ v a b d through in_v da db dd. (
         farther ts first v a b p k through (none_before ts first v p sound in_first begins k through in_v) da db,
-        farther ts v last b d p through h.here (none_behind ts last v p sound in_last ends h.here through in_v) db dd,
+        farther ts v last b d p through h.here (none_beyond ts last v p sound in_last ends h.here through in_v) db dd,
       ));
-      lowest = (λ v through in_v. h.lowest v through in_v (none_behind ts last v p sound in_last ends h.here through in_v));
+      lowest = (λ v through in_v. h.lowest v through in_v (none_beyond ts last v p sound in_last ends h.here through in_v));
     }
 
 plateau_is : (ts : Trees) (p : List ℕ) (c : Plateau) (near far : ℕ) → IsInBoth ts c.first → IsInBoth ts c.last → IsInBoth ts c.least → IsThrough ts c.least p → Spans ts p c.first c.last c.least → IsDist ts.graph ts.source c.first (Some near) → IsDist ts.graph ts.source c.last (Some far) → far ≡ near + c.length → IsPlateauOf ts p c
@@ -230,7 +230,7 @@ walk_through ts v sound source inside =
       path = first.path ++ last.path;
       through = record {
         vertex = inside_vertex ts.graph ts.radius ts.source v sound source inside.from;
-        front = first.path;
+        prefix = first.path;
         back = last.path;
         first = first.first;
         last = last.last;
@@ -268,8 +268,8 @@ starts ts bound v near left c sound source inside d_near d_left within first cha
 -- two chains of one walk begin at one vertex
 pub same_first : (ts : Trees) (p : List ℕ) (a b : Plateau) → IsGraph ts.graph → IsPrevious ts a.first None → IsPrevious ts b.first None → IsPlateauOf ts p a → IsPlateauOf ts p b → a.first ≡ b.first
 same_first ts p a b sound begins_a begins_b h k =
-    let one : length h.first.front ≤ length k.first.front = none_before ts a.first b.first p sound h.first_inside begins_a h.first k.first k.first_inside in
-    let two : length k.first.front ≤ length h.first.front = none_before ts b.first a.first p sound k.first_inside begins_b k.first h.first h.first_inside in
+    let one : length h.first.prefix ≤ length k.first.prefix = none_before ts a.first b.first p sound h.first_inside begins_a h.first k.first k.first_inside in
+    let two : length k.first.prefix ≤ length h.first.prefix = none_before ts b.first a.first p sound k.first_inside begins_b k.first h.first h.first_inside in
     same_place ts a.first b.first p h.first k.first (omega arith)
 
 pub inside_both : (ts : Trees) (v near left : ℕ) → IsDist ts.graph ts.source v (Some near) × IsWithin ts.radius near → IsDist ts.graph v ts.target (Some left) × IsWithin ts.radius left → IsInBoth ts v

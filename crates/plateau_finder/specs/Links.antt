@@ -19,15 +19,15 @@ use Rattle.road_model.specs.Canonical.{IsFirst, IsLast}
 use Rattle.tree_search.specs.Ball.{IsWithin}
 use Rattle.canonical_trees.specs.Trees.{Trees}
 use Rattle.plateau_finder.specs.declared.plateau.Plateau.{Plateau}
-use Rattle.plateau_finder.specs.Plateaus.{IsInBoth, IsThrough, IsPlateauOf, IsListed, HasPlateau}
+use Rattle.plateau_finder.specs.Plateaus.{IsInBoth, IsThrough, IsPlateauOf, IsListedPlateau, HasPlateau}
 
 pub record IsLink (ts : Trees) (u v : ℕ) : Type 0 where
   pub arc : ℕ
-  pub front : List ℕ
+  pub prefix : List ℕ
   pub back : List ℕ
-  pub first : IsFirst ts.graph ts.source front u
+  pub first : IsFirst ts.graph ts.source prefix u
   pub last : IsLast ts.graph u (arc ∷ back) ts.target
-  pub first_on : IsFirst ts.graph ts.source (front ++ arc ∷ []) v
+  pub first_on : IsFirst ts.graph ts.source (prefix ++ arc ∷ []) v
   pub last_on : IsLast ts.graph v back ts.target
 
 pub record IsLinkInside (ts : Trees) (u v : ℕ) : Type 0 where
@@ -54,7 +54,7 @@ pub record HasLinkInto (ts : Trees) (v : ℕ) : Type 0 where
 pub record IsStart (ts : Trees) (bound : Option ℕ) (v : ℕ) (c : Plateau) : Type 0 where
   pub is_first : c.first ≡ v
   pub begins : IsPrevious ts c.first None
-  pub listed : IsListed ts bound c
+  pub listed : IsListedPlateau ts bound c
 
 abbrev pub StartsAt : Trees → Option ℕ → ℕ → Option Plateau → Type 0
 StartsAt ts bound v None = (p : List ℕ) → IsThrough ts v p → IsInBoth ts v → IsWithin bound (walk_length ts.graph p) → HasLinkInto ts v
@@ -71,7 +71,7 @@ pub record HasStart (cs : List Plateau) (v : ℕ) : Type 0 where
   pub is : plateau.first ≡ v
 
 pub record AreGathered (ts : Trees) (bound : Option ℕ) (cs : List Plateau) : Type 0 where
-  pub each : All (IsListed ts bound) cs
+  pub each : All (IsListedPlateau ts bound) cs
   pub every : (v : ℕ) (p : List ℕ) → IsThrough ts v p → IsInBoth ts v → IsWithin bound (walk_length ts.graph p) → HasPlateau ts p cs
   pub apart : AllPairs (λ a b. a.least ≢ b.least) cs
 

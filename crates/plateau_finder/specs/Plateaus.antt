@@ -5,7 +5,7 @@
 --                          vertex in both that p is the walk through is at a distance from the source from that of
 --                          `first` to that of `last`, which are c's length apart, and isn't below `least`; where p
 --                          is within the radius, that is p's name, and that length is p's plateau
---   IsListed ts bound c    c is the plateau of some walk, which is within the bound
+--   IsListedPlateau ts bound c    c is the plateau of some walk, which is within the bound
 --   HasPlateau ts p cs     the plateau of p is among these
 --   ArePlateaus ts bound cs   those of the walks within the bound through the vertices in both balls, each once,
 --                          by rising least vertex; where the bound is None, those of all walks
@@ -42,7 +42,7 @@ pub record IsPlateauOf (ts : Trees) (p : List ℕ) (c : Plateau) : Type 0 where
   pub is_name : IsWithin ts.radius (walk_length ts.graph p) → IsName ts.graph ts.source ts.target p c.least
   pub is_plateau : IsWithin ts.radius (walk_length ts.graph p) → IsPlateau ts.graph ts.source ts.target p c.length
 
-pub record IsListed (ts : Trees) (bound : Option ℕ) (c : Plateau) : Type 0 where
+pub record IsListedPlateau (ts : Trees) (bound : Option ℕ) (c : Plateau) : Type 0 where
   pub walk : List ℕ
   pub within : IsWithin bound (walk_length ts.graph walk)
   pub is : IsPlateauOf ts walk c
@@ -53,7 +53,7 @@ pub record HasPlateau (ts : Trees) (p : List ℕ) (cs : List Plateau) : Type 0 w
   pub is : IsPlateauOf ts p plateau
 
 pub record ArePlateaus (ts : Trees) (bound : Option ℕ) (cs : List Plateau) : Type 0 where
-  pub each : All (IsListed ts bound) cs
+  pub each : All (IsListedPlateau ts bound) cs
   pub every : (v : ℕ) (p : List ℕ) → IsThrough ts v p → IsInBoth ts v → IsWithin bound (walk_length ts.graph p) → HasPlateau ts p cs
   pub rising : AllPairs (λ earlier later. earlier.least < later.least) cs
 

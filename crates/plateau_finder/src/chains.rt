@@ -49,7 +49,7 @@ pub(crate) fn plateau_from(pair: &TreePair<'_>, first: Vertex) -> Plateau
     ensures first { result.first ≡ first }
     ensures chain { IsChainFrom pair.now result }
 {
-    let _limits = pair.star().graph();
+    pair.star().within_limits();
     let mut last = first;
     let mut least = first;
     let mut left = left_of(pair, first);
@@ -80,7 +80,7 @@ fn is_within(bound: Option<u64>, length: u64) -> bool
 pub(crate) fn plateau_at(pair: &TreePair<'_>, v: Vertex, bound: Option<u64>) -> Option<Plateau>
     ensures { StartsAt pair.now bound v result }
 {
-    let _limits = pair.star().graph();
+    pair.star().within_limits();
     let _source = pair.source();
     let Some(near) = pair.from_label(v) else {
         return None;
@@ -102,7 +102,7 @@ pub(crate) fn first_of(pair: &TreePair<'_>, v: Vertex) -> Vertex
     requires { IsInBoth pair.now v }
     ensures { IsChainBack pair.now v result }
 {
-    let _limits = pair.star().graph();
+    pair.star().within_limits();
     let mut first = v;
     let mut near = near_of(pair, v);
     while let Some(previous) = previous_of(pair, first) {

@@ -18,7 +18,7 @@ fn gathered(
 ) -> Result<Vec<Plateau>, NoMemory>
     ensures { IfOk result (λ cs. AreGathered pair.now bound cs.items) }
 {
-    let _limits = pair.star().graph();
+    pair.star().within_limits();
     let mut found = Vec::new(alloc);
     for v in pair.from_members().as_slice() {
         if let Some(plateau) = plateau_at(pair, *v, bound) {
@@ -92,7 +92,7 @@ pub fn plateau_of(list: &PlateauList, pair: &TreePair<'_>, v: Vertex) -> Option<
     requires { ArePlateaus pair.now None list.now }
     ensures { FindsPlateau pair.now list.now v result }
 {
-    let _limits = pair.star().graph();
+    pair.star().within_limits();
     let _source = pair.source();
     let Some(_near) = pair.from_label(v) else {
         return None;

@@ -54,7 +54,7 @@ fn text_of(alloc: Global, list: &PlateauList) -> Result<String, Fail> {
 
 // The plateaus from one vertex to another within the bound, where the radius is one too.
 fn within(alloc: Global, star: &Star, ends: (u32, u32), bound: u64) -> Result<String, Fail> {
-    let vertices = star.graph().vertices();
+    let vertices = star.vertices();
     let (from, to) = ends;
     if from == 0 || from > vertices || to == 0 || to > vertices {
         return Err("no such vertex".into());
@@ -85,7 +85,7 @@ fn finds_each_plateau_once(rt: HostRuntime) -> Result<(), Fail> {
 #[test]
 fn finds_the_plateau_of_a_vertex(rt: HostRuntime) -> Result<(), Fail> {
     let star = star_of(rt.alloc(), 6, A)?;
-    if star.graph().vertices() < 6 {
+    if star.vertices() < 6 {
         return Err("too few vertices".into());
     }
     let pair = trees(rt.alloc(), &star, Vertex(1), Vertex(6), None)?;

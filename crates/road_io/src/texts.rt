@@ -1,6 +1,6 @@
 ghost use Rattle.std.specs.Prelude.{◌≡◌, ℕ, ◌<◌, ◌≤◌, length, take, Some};
 ghost use Rattle.std.specs.Option.{option_copied};
-ghost use Rattle.road_io.specs.Memory.{Gives, contents_in};
+ghost use Rattle.road_io.specs.Memory.{GivesPiece, contents_in};
 
 use crate::reading::Read;
 
@@ -56,7 +56,7 @@ impl<'a> Rest<'a> {
 
     pub(crate) fn take(&mut self, room: &mut [u8]) -> Read
         requires { 0 < length room.old }
-        ensures gives { Gives self.old.piece room.new self.old.bytes.now self.new.bytes.now result }
+        ensures gives { GivesPiece self.old.piece room.new self.old.bytes.now self.new.bytes.now result }
         ensures piece { self.new.piece ≡ self.old.piece }
     {
         let left = self.bytes.len();

@@ -61,16 +61,16 @@ last_6 : IsLast graph_a 6 [] 6
 last_6 = last_by graph_a 6 6 [] (nothing 6) tt
 
 via_1 : IsVia graph_a 1 6 1 (1 ∷ 2 ∷ [])
-via_1 = record { vertex = inside 1 (omega arith) (omega arith); front = []; back = 1 ∷ 2 ∷ []; first = first_1; last = last_1; joined = refl }
+via_1 = record { vertex = inside 1 (omega arith) (omega arith); prefix = []; back = 1 ∷ 2 ∷ []; first = first_1; last = last_1; joined = refl }
 
 pub via_2 : IsVia graph_a 1 6 2 (1 ∷ 2 ∷ [])
-via_2 = record { vertex = inside 2 (omega arith) (omega arith); front = 1 ∷ []; back = 2 ∷ []; first = first_2; last = last_2; joined = refl }
+via_2 = record { vertex = inside 2 (omega arith) (omega arith); prefix = 1 ∷ []; back = 2 ∷ []; first = first_2; last = last_2; joined = refl }
 
 pub via_4 : IsVia graph_a 1 6 4 (3 ∷ 4 ∷ 5 ∷ [])
-via_4 = record { vertex = inside 4 (omega arith) (omega arith); front = 3 ∷ 4 ∷ []; back = 5 ∷ []; first = first_4; last = last_4; joined = refl }
+via_4 = record { vertex = inside 4 (omega arith) (omega arith); prefix = 3 ∷ 4 ∷ []; back = 5 ∷ []; first = first_4; last = last_4; joined = refl }
 
 via_6 : IsVia graph_a 1 6 6 (1 ∷ 2 ∷ [])
-via_6 = record { vertex = inside 6 (omega arith) (omega arith); front = 1 ∷ 2 ∷ []; back = []; first = first_6; last = last_6; joined = refl }
+via_6 = record { vertex = inside 6 (omega arith) (omega arith); prefix = 1 ∷ 2 ∷ []; back = []; first = first_6; last = last_6; joined = refl }
 
 -- the path through a vertex other than the optimum is 3 4 5, and the vertex 3 or 4
 record Other (v : ℕ) (p : List ℕ) : Type 0 where

@@ -54,7 +54,7 @@ before_last g q s v e walk =
     let same : Some c.back.0 ≡ Some e.row = sym c.back.1 ∙ e.is in
     let row : c.back.0 ≡ e.row = cc in
     let tail : e.row.tail ≡ c.middle = sym (ap (λ (r : ArcRow). r.tail) row) ∙ c.back.2 in
-    subst (λ (x : ℕ). IsWalk g s e.before x) (sym tail) c.front
+    subst (λ (x : ℕ). IsWalk g s e.before x) (sym tail) c.prefix
 
 least_into : (g : Graph) (s v : ℕ) (p q : List ℕ) → LeastInto g s v p → IsWalk g s q v → LexLe p (reverse q)
 least_into g s v [] q h walk = tt

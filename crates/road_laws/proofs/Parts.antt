@@ -10,16 +10,16 @@ use Rattle.road_model.specs.Fraction.{Fraction}
 use Rattle.road_model.specs.Places.{places, sums, trail_of, vertex_at, between, IsDistAt}
 use Rattle.road_model.specs.Tests.{FailsLocal, NoneFails}
 use Rattle.road_model.specs.Alternatives.{IsVia}
-use Rattle.road_model.proofs.Parts.{dist_in_front, dist_in_back, place_after, sum_after, length-places}
+use Rattle.road_model.proofs.Parts.{dist_in_prefix, dist_in_back, place_after, sum_after, length-places}
 
 via_parts : (g : Graph) (s t v : ℕ) (f b : List ℕ) (i j : ℕ) → IsShortest g s f v → IsShortest g v b t → i ≤ j → j ≤ length (f ++ b) → (j ≤ length f) ⊎ (length f ≤ i) → IsDistAt g (trail_of g s (f ++ b)) i j (between (trail_of g s (f ++ b)) i j)
-via_parts g s t v f b i j h k le inside (inl front) = dist_in_front g s v f b i j h le front
-via_parts g s t v f b i j h k le inside (inr behind) = dist_in_back g s v t f b i j h.walk k behind le inside
+via_parts g s t v f b i j h k le inside (inl prefix) = dist_in_prefix g s v f b i j h le prefix
+via_parts g s t v f b i j h k le inside (inr beyond) = dist_in_back g s v t f b i j h.walk k beyond le inside
 
-pub via_parts_lem : (g : Graph) (s t v : ℕ) (p : List ℕ) (through : IsVia g s t v p) (i j : ℕ) → i ≤ j → j ≤ length p → (j ≤ length through.front) ⊎ (length through.front ≤ i) → IsDistAt g (trail_of g s p) i j (between (trail_of g s p) i j)
+pub via_parts_lem : (g : Graph) (s t v : ℕ) (p : List ℕ) (through : IsVia g s t v p) (i j : ℕ) → i ≤ j → j ≤ length p → (j ≤ length through.prefix) ⊎ (length through.prefix ≤ i) → IsDistAt g (trail_of g s p) i j (between (trail_of g s p) i j)
 via_parts_lem g s t v p through i j le inside side =
     subst (λ (l : List ℕ). IsDistAt g (trail_of g s l) i j (between (trail_of g s l) i j)) (sym through.joined)
-    (via_parts g s t v through.front through.back i j through.first.shortest through.last.shortest le
+    (via_parts g s t v through.prefix through.back i j through.first.shortest through.last.shortest le
     (subst (λ (l : List ℕ). j ≤ length l) through.joined inside) side)
 
 -- the whole of a walk, as a pair of places

@@ -114,7 +114,7 @@ least_below_bound = record {
   last = (λ b c h. omega (arith, (local_a (ratio 13 40) 0 b c h).1));
 }
 
-not_via : (front back : List ℕ) → 3 ∷ 4 ∷ 5 ∷ [] ≡ front ++ back → IsShortest graph_a 1 front 2 → ⊥
+not_via : (prefix back : List ℕ) → 3 ∷ 4 ∷ 5 ∷ [] ≡ prefix ++ back → IsShortest graph_a 1 prefix 2 → ⊥
 not_via [] back e h = let same : 1 ≡ 2 = h.walk in omega arith
 not_via (a ∷ x) back e h =
     let first : 3 ≡ a = cc in
@@ -123,7 +123,7 @@ not_via (a ∷ x) back e h =
     omega arith
 
 pub not_via_2 : IsVia graph_a 1 6 2 (3 ∷ 4 ∷ 5 ∷ []) → ⊥
-not_via_2 h = not_via h.front h.back h.joined h.first.shortest
+not_via_2 h = not_via h.prefix h.back h.joined h.first.shortest
 
 -- graph B
 abbrev trail_b : Trail

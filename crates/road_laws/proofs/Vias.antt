@@ -14,12 +14,12 @@ use Rattle.road_model.proofs.CanonicalWalks.{IsFirst-unique, IsLast-unique}
 
 pub IsVia-unique : (g : Graph) (s t v : ℕ) (p q : List ℕ) → IsVia g s t v p → IsVia g s t v q → p ≡ q
 IsVia-unique g s t v p q h k =
-    let front : h.front ≡ k.front = IsFirst-unique g s v h.front k.front h.first k.first in
+    let prefix : h.prefix ≡ k.prefix = IsFirst-unique g s v h.prefix k.prefix h.first k.first in
     let back : h.back ≡ k.back = IsLast-unique g v t h.back k.back h.last k.last in
-    h.joined ∙ (ap (λ (x : List ℕ). x ++ h.back) front ∙ (ap (λ (x : List ℕ). k.front ++ x) back ∙ sym k.joined))
+    h.joined ∙ (ap (λ (x : List ℕ). x ++ h.back) prefix ∙ (ap (λ (x : List ℕ). k.prefix ++ x) back ∙ sym k.joined))
 
 pub no_via : {P : Type 0} (g : Graph) (s t v : ℕ) (p : List ℕ) → HasNoVia g s t v → IsVia g s t v p → P
-no_via g s t v p none h = absurd (none h.front h.back h.first.shortest.walk h.last.shortest.walk)
+no_via g s t v p none h = absurd (none h.prefix h.back h.first.shortest.walk h.last.shortest.walk)
 
 -- no arc is needed from a vertex to itself
 pub last_of_itself : (g : Graph) (t : ℕ) (p : List ℕ) → IsGraph g → IsLast g t p t → p ≡ []
@@ -30,8 +30,8 @@ last_of_itself g t (a ∷ p) sound h =
 pub via_of_target_lem : (g : Graph) (s t : ℕ) (p : List ℕ) → IsGraph g → IsVia g s t t p → IsFirst g s p t
 via_of_target_lem g s t p sound h =
     let none : h.back ≡ [] = last_of_itself g t h.back sound h.last in
-    let front : p ≡ h.front = h.joined ∙ (ap (λ (x : List ℕ). h.front ++ x) none ∙ append-nil h.front) in
-    subst (λ (x : List ℕ). IsFirst g s x t) (sym front) h.first
+    let prefix : p ≡ h.prefix = h.joined ∙ (ap (λ (x : List ℕ). h.prefix ++ x) none ∙ append-nil h.prefix) in
+    subst (λ (x : List ℕ). IsFirst g s x t) (sym prefix) h.first
 
 pub IsName-unique : (g : Graph) (s t : ℕ) (p : List ℕ) (v w : ℕ) → IsName g s t p v → IsName g s t p w → v ≡ w
 IsName-unique g s t p v w h k = omega (arith, h.least w k.through, k.least v h.through)

@@ -86,4 +86,4 @@ pub last_3_6 : IsLast graph_a 3 (4 ∷ 5 ∷ []) 6
 last_3_6 = record { shortest = shortest_45; least = last_45 }
 
 pub via_3 : IsVia graph_a 1 6 3 (3 ∷ 4 ∷ 5 ∷ [])
-via_3 = record { vertex = record { first = omega arith; last = omega arith }; front = 3 ∷ []; back = 4 ∷ 5 ∷ []; first = first_3; last = last_3_6; joined = refl }
+via_3 = record { vertex = record { first = omega arith; last = omega arith }; prefix = 3 ∷ []; back = 4 ∷ 5 ∷ []; first = first_3; last = last_3_6; joined = refl }

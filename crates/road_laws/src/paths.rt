@@ -50,7 +50,7 @@ pub fn via_of_target()
 /// between its ends: only pairs of places round the via can fail a test.
 pub fn via_parts_are_shortest()
     ensures { (g : Graph) (s t v : ℕ) (p : List ℕ) (through : IsVia g s t v p) (i j : ℕ) →
-        i ≤ j → j ≤ length p → (j ≤ length through.front) ⊎ (length through.front ≤ i) →
+        i ≤ j → j ≤ length p → (j ≤ length through.prefix) ⊎ (length through.prefix ≤ i) →
         IsDistAt g (trail_of g s p) i j (between (trail_of g s p) i j) }
 {}
 

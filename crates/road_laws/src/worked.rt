@@ -94,6 +94,6 @@ pub fn changes_of_a()
 pub fn pages_of_two()
     ensures first { IsPage 2 1 0 (record { first = 0; count = 1; more = true }) }
     ensures last { IsPage 2 1 1 (record { first = 1; count = 1; more = false }) }
-    ensures behind { IsPage 2 1 9 (record { first = 2; count = 0; more = false }) }
+    ensures beyond { IsPage 2 1 9 (record { first = 2; count = 0; more = false }) }
     ensures not_more { IsPage 2 1 1 (record { first = 1; count = 1; more = true }) → ⊥ }
 {}

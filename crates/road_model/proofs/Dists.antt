@@ -37,20 +37,20 @@ triangle g u v w a b c h k l =
     omega (arith, walk_length-append g h.0.path k.0.path, h.0.long, k.0.long)
 
 -- the two parts of a shortest walk are shortest
-pub front_of_shortest : (g : Graph) (p q : List ℕ) (u v w : ℕ) → IsShortest g u (p ++ q) w → IsWalk g u p v → IsWalk g v q w → IsShortest g u p v
-front_of_shortest g p q u v w h front back =
+pub prefix_of_shortest : (g : Graph) (p q : List ℕ) (u v w : ℕ) → IsShortest g u (p ++ q) w → IsWalk g u p v → IsWalk g v q w → IsShortest g u p v
+prefix_of_shortest g p q u v w h prefix back =
     record {
-      walk = front;
+      walk = prefix;
       least = (λ x walk.
           let other : walk_length g (p ++ q) ≤ walk_length g (x ++ q) = h.least (x ++ q) (IsWalk-append g x q u v w walk back) in
           omega (arith, walk_length-append g p q, walk_length-append g x q));
     }
 
 pub back_of_shortest : (g : Graph) (p q : List ℕ) (u v w : ℕ) → IsShortest g u (p ++ q) w → IsWalk g u p v → IsWalk g v q w → IsShortest g v q w
-back_of_shortest g p q u v w h front back =
+back_of_shortest g p q u v w h prefix back =
     record {
       walk = back;
       least = (λ x walk.
-          let other : walk_length g (p ++ q) ≤ walk_length g (p ++ x) = h.least (p ++ x) (IsWalk-append g p x u v w front walk) in
+          let other : walk_length g (p ++ q) ≤ walk_length g (p ++ x) = h.least (p ++ x) (IsWalk-append g p x u v w prefix walk) in
           omega (arith, walk_length-append g p q, walk_length-append g p x));
     }

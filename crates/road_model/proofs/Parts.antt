@@ -6,7 +6,7 @@ use Rattle.road_model.specs.Walk.{IsWalk, walk_length}
 use Rattle.road_model.specs.Dist.{IsDist, IsShortest}
 use Rattle.road_model.specs.Places.{places, sums, trail_of, vertex_at, between, IsDistAt}
 use Rattle.road_model.proofs.Walks.{Cut, cut, walk_length-append, IsWalk-append}
-use Rattle.road_model.proofs.Dists.{dist_of_shortest, front_of_shortest, back_of_shortest}
+use Rattle.road_model.proofs.Dists.{dist_of_shortest, prefix_of_shortest, back_of_shortest}
 
 pub length-places : (g : Graph) (u : ℕ) (p : List ℕ) → length (places g u p) ≡ length p + 1
 length-places g u [] = refl
@@ -65,12 +65,12 @@ dist_of_piece g u x y a b c h k =
 
 -- the pieces of a list cut at two places
 pub record Pieces (p : List ℕ) (i j : ℕ) : Type 0 where
-  pub front : List ℕ
+  pub prefix : List ℕ
   pub middle : List ℕ
   pub back : List ℕ
-  pub is : p ≡ front ++ (middle ++ back)
-  pub near : length front ≡ i
-  pub far : length front + length middle ≡ j
+  pub is : p ≡ prefix ++ (middle ++ back)
+  pub near : length prefix ≡ i
+  pub far : length prefix + length middle ≡ j
 
 pub pieces : (p : List ℕ) (i j : ℕ) → i ≤ j → j ≤ length p → Pieces p i j
 pieces p i j le inside =
@@ -78,7 +78,7 @@ pieces p i j le inside =
     let rest : length (drop i p) ≡ length p - i = length-drop i p in
     let far : length (take (j - i) (drop i p)) ≡ j - i = length-take-le (j - i) (drop i p) (omega arith) in
     record {
-      front = take i p;
+      prefix = take i p;
       middle = take (j - i) (drop i p);
       back = drop (j - i) (drop i p);
       is = sym (ap (λ (l : List ℕ). take i p ++ l) (take-append-drop (j - i) (drop i p)) ∙ take-append-drop i p);
@@ -87,22 +87,22 @@ pieces p i j le inside =
     }
 
 -- facts of the three pieces, told of the walk and its places
-moved : (P : List ℕ → ℕ → ℕ → Type 0) (p : List ℕ) (i j : ℕ) (cuts : Pieces p i j) → P (cuts.front ++ (cuts.middle ++ cuts.back)) (length cuts.front) (length cuts.front + length cuts.middle) → P p i j
+moved : (P : List ℕ → ℕ → ℕ → Type 0) (p : List ℕ) (i j : ℕ) (cuts : Pieces p i j) → P (cuts.prefix ++ (cuts.middle ++ cuts.back)) (length cuts.prefix) (length cuts.prefix + length cuts.middle) → P p i j
 moved P p i j cuts h =
     subst (λ (l : List ℕ). P l i j) (sym cuts.is)
-    (subst (λ (n : ℕ). P (cuts.front ++ (cuts.middle ++ cuts.back)) n j) cuts.near
-    (subst (λ (n : ℕ). P (cuts.front ++ (cuts.middle ++ cuts.back)) (length cuts.front) n) cuts.far h))
+    (subst (λ (n : ℕ). P (cuts.prefix ++ (cuts.middle ++ cuts.back)) n j) cuts.near
+    (subst (λ (n : ℕ). P (cuts.prefix ++ (cuts.middle ++ cuts.back)) (length cuts.prefix) n) cuts.far h))
 
 parted_pieces : (g : Graph) (u v : ℕ) (a b c : List ℕ) → IsWalk g u (a ++ (b ++ c)) v → Parted g u (a ++ (b ++ c)) (length a) (length a + length b)
 parted_pieces g u v a b c h =
     let outer : Cut g u a (b ++ c) v = cut g a (b ++ c) u v h in
     let inner : Cut g outer.middle b c v = cut g b c outer.middle v outer.back in
-    let near : vertex_at (trail_of g u (a ++ (b ++ c))) (length a) ≡ outer.middle = place_after g a (b ++ c) u outer.middle outer.front in
-    let far : vertex_at (trail_of g u (a ++ (b ++ c))) (length a + length b) ≡ inner.middle = place_pieces g u outer.middle inner.middle a b c outer.front inner.front in
+    let near : vertex_at (trail_of g u (a ++ (b ++ c))) (length a) ≡ outer.middle = place_after g a (b ++ c) u outer.middle outer.prefix in
+    let far : vertex_at (trail_of g u (a ++ (b ++ c))) (length a + length b) ≡ inner.middle = place_pieces g u outer.middle inner.middle a b c outer.prefix inner.prefix in
     record {
       part = b;
       walk = subst (λ (x : ℕ). IsWalk g x b (vertex_at (trail_of g u (a ++ (b ++ c))) (length a + length b))) (sym near)
-          (subst (λ (x : ℕ). IsWalk g outer.middle b x) (sym far) inner.front);
+          (subst (λ (x : ℕ). IsWalk g outer.middle b x) (sym far) inner.prefix);
       long = sym (between_pieces g u a b c);
     }
 
@@ -110,7 +110,7 @@ parted_pieces g u v a b c h =
 pub parted : (g : Graph) (u v : ℕ) (p : List ℕ) (i j : ℕ) → IsWalk g u p v → i ≤ j → j ≤ length p → Parted g u p i j
 parted g u v p i j h le inside =
     let cuts : Pieces p i j = pieces p i j le inside in
-    moved (λ l m n. Parted g u l m n) p i j cuts (parted_pieces g u v cuts.front cuts.middle cuts.back (subst (λ (l : List ℕ). IsWalk g u l v) cuts.is h))
+    moved (λ l m n. Parted g u l m n) p i j cuts (parted_pieces g u v cuts.prefix cuts.middle cuts.back (subst (λ (l : List ℕ). IsWalk g u l v) cuts.is h))
 
 -- the middle of three pieces of a shortest walk, after a walk, and with anything following
 record Middle (g : Graph) (u : ℕ) (a b : List ℕ) : Type 0 where
@@ -123,27 +123,27 @@ middle_of : (g : Graph) (u w : ℕ) (a b c : List ℕ) → IsShortest g u (a ++ 
 middle_of g u w a b c h =
     let outer : Cut g u a (b ++ c) w = cut g a (b ++ c) u w h.walk in
     let inner : Cut g outer.middle b c w = cut g b c outer.middle w outer.back in
-    let rest : IsShortest g outer.middle (b ++ c) w = back_of_shortest g a (b ++ c) u outer.middle w h outer.front outer.back in
+    let rest : IsShortest g outer.middle (b ++ c) w = back_of_shortest g a (b ++ c) u outer.middle w h outer.prefix outer.back in
     record {
       from = outer.middle;
       to = inner.middle;
-      before = outer.front;
-      shortest = front_of_shortest g b c outer.middle inner.middle w rest inner.front inner.back;
+      before = outer.prefix;
+      shortest = prefix_of_shortest g b c outer.middle inner.middle w rest inner.prefix inner.back;
     }
 
-front_pieces : (g : Graph) (u w : ℕ) (a b c q : List ℕ) → IsShortest g u (a ++ (b ++ c)) w → IsDistAt g (trail_of g u ((a ++ (b ++ c)) ++ q)) (length a) (length a + length b) (between (trail_of g u ((a ++ (b ++ c)) ++ q)) (length a) (length a + length b))
-front_pieces g u w a b c q h =
+prefix_pieces : (g : Graph) (u w : ℕ) (a b c q : List ℕ) → IsShortest g u (a ++ (b ++ c)) w → IsDistAt g (trail_of g u ((a ++ (b ++ c)) ++ q)) (length a) (length a + length b) (between (trail_of g u ((a ++ (b ++ c)) ++ q)) (length a) (length a + length b))
+prefix_pieces g u w a b c q h =
     let m : Middle g u a b = middle_of g u w a b c h in
     let same : (a ++ (b ++ c)) ++ q ≡ a ++ (b ++ (c ++ q)) = append_assoc a (b ++ c) q ∙ ap (λ (l : List ℕ). a ++ l) (append_assoc b c q) in
     subst (λ (l : List ℕ). IsDistAt g (trail_of g u l) (length a) (length a + length b) (between (trail_of g u l) (length a) (length a + length b))) (sym same)
     (dist_of_piece g u m.from m.to a b (c ++ q) m.before m.shortest)
 
 -- within a shortest first part of a walk, each subpath is as long as the distance between its ends
-pub dist_in_front : (g : Graph) (u w : ℕ) (f q : List ℕ) (i j : ℕ) → IsShortest g u f w → i ≤ j → j ≤ length f → IsDistAt g (trail_of g u (f ++ q)) i j (between (trail_of g u (f ++ q)) i j)
-dist_in_front g u w f q i j h le inside =
+pub dist_in_prefix : (g : Graph) (u w : ℕ) (f q : List ℕ) (i j : ℕ) → IsShortest g u f w → i ≤ j → j ≤ length f → IsDistAt g (trail_of g u (f ++ q)) i j (between (trail_of g u (f ++ q)) i j)
+dist_in_prefix g u w f q i j h le inside =
     let cuts : Pieces f i j = pieces f i j le inside in
     moved (λ l m n. IsDistAt g (trail_of g u (l ++ q)) m n (between (trail_of g u (l ++ q)) m n)) f i j cuts
-    (front_pieces g u w cuts.front cuts.middle cuts.back q (subst (λ (l : List ℕ). IsShortest g u l w) cuts.is h))
+    (prefix_pieces g u w cuts.prefix cuts.middle cuts.back q (subst (λ (l : List ℕ). IsShortest g u l w) cuts.is h))
 
 back_pieces : (g : Graph) (u v w : ℕ) (f a b c : List ℕ) → IsWalk g u f v → IsShortest g v (a ++ (b ++ c)) w → IsDistAt g (trail_of g u (f ++ (a ++ (b ++ c)))) (length f + length a) (length f + (length a + length b)) (between (trail_of g u (f ++ (a ++ (b ++ c)))) (length f + length a) (length f + (length a + length b)))
 back_pieces g u v w f a b c walk h =
@@ -158,11 +158,11 @@ back_pieces g u v w f a b c walk h =
 
 -- and within a shortest last part
 pub dist_in_back : (g : Graph) (u v w : ℕ) (f q : List ℕ) (i j : ℕ) → IsWalk g u f v → IsShortest g v q w → length f ≤ i → i ≤ j → j ≤ length (f ++ q) → IsDistAt g (trail_of g u (f ++ q)) i j (between (trail_of g u (f ++ q)) i j)
-dist_in_back g u v w f q i j walk h behind le inside =
+dist_in_back g u v w f q i j walk h beyond le inside =
     let whole : length (f ++ q) ≡ length f + length q = length-append f q in
     let cuts : Pieces q (i - length f) (j - length f) = pieces q (i - length f) (j - length f) (omega arith) (omega arith) in
     let shifted = moved (λ l m n. IsDistAt g (trail_of g u (f ++ l)) (length f + m) (length f + n) (between (trail_of g u (f ++ l)) (length f + m) (length f + n))) q (i - length f) (j - length f) cuts
-    (back_pieces g u v w f cuts.front cuts.middle cuts.back walk (subst (λ (l : List ℕ). IsShortest g v l w) cuts.is h)) in
+    (back_pieces g u v w f cuts.prefix cuts.middle cuts.back walk (subst (λ (l : List ℕ). IsShortest g v l w) cuts.is h)) in
     let near : length f + (i - length f) ≡ i = omega arith in
     let far : length f + (j - length f) ≡ j = omega arith in
     subst (λ (n : ℕ). IsDistAt g (trail_of g u (f ++ q)) n j (between (trail_of g u (f ++ q)) n j)) near

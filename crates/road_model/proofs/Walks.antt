@@ -12,14 +12,14 @@ IsWalk-append g (a ∷ p) q u v w h k = (h.0, h.1, h.2, IsWalk-append g p q h.0.
 -- a walk that goes on through a middle vertex
 pub record Cut (g : Graph) (u : ℕ) (p q : List ℕ) (w : ℕ) : Type 0 where
   pub middle : ℕ
-  pub front : IsWalk g u p middle
+  pub prefix : IsWalk g u p middle
   pub back : IsWalk g middle q w
 
 pub cut : (g : Graph) (p q : List ℕ) (u w : ℕ) → IsWalk g u (p ++ q) w → Cut g u p q w
-cut g [] q u w h = record { middle = u; front = refl; back = h }
+cut g [] q u w h = record { middle = u; prefix = refl; back = h }
 cut g (a ∷ p) q u w h =
     let rest = cut g p q h.0.head w h.3 in
-    record { middle = rest.middle; front = (h.0, h.1, h.2, rest.front); back = rest.back }
+    record { middle = rest.middle; prefix = (h.0, h.1, h.2, rest.prefix); back = rest.back }
 
 pub walk_length-append : (g : Graph) (p q : List ℕ) → walk_length g (p ++ q) ≡ walk_length g p + walk_length g q
 walk_length-append g [] q = omega arith

@@ -19,11 +19,11 @@ use Rattle.road_model.specs.Tests.{shared, FailsLocal, FailsStretch, NoneFails}
 
 pub record IsVia (g : Graph) (s t v : ℕ) (p : List ℕ) : Type 0 where
   pub vertex : IsVertex g.vertices v
-  pub front : List ℕ
+  pub prefix : List ℕ
   pub back : List ℕ
-  pub first : IsFirst g s front v
+  pub first : IsFirst g s prefix v
   pub last : IsLast g v back t
-  pub joined : p ≡ front ++ back
+  pub joined : p ≡ prefix ++ back
 
 abbrev pub HasNoVia : Graph → ℕ → ℕ → ℕ → Type 0
 HasNoVia g s t v = (p q : List ℕ) → IsWalk g s p v → IsWalk g v q t → ⊥

@@ -13,3 +13,4 @@ pub mod Alternatives
 pub mod Answers
 pub mod Verdicts
 pub mod Versions
+pub mod Messages

@@ -22,14 +22,14 @@ pub record IsViaWalk (o : Graph) (t : Trail) (via : ℕ) : Type 0 where
   pub middle : ℕ
   pub target : ℕ
   pub inside : IsVertex graph.vertices source
-  pub front : List ℕ
+  pub prefix : List ℕ
   pub back : List ℕ
-  pub front_shortest : IsShortest graph source front middle
+  pub prefix_shortest : IsShortest graph source prefix middle
   pub back_shortest : IsShortest graph middle back target
-  pub is : t ≡ trail_of graph source (front ++ back)
-  pub place : via ≡ length front
-  pub few : length (front ++ back) + 1 < 2 ^ 32
-  pub short : walk_length graph (front ++ back) < 2 ^ 58
+  pub is : t ≡ trail_of graph source (prefix ++ back)
+  pub place : via ≡ length prefix
+  pub few : length (prefix ++ back) + 1 < 2 ^ 32
+  pub short : walk_length graph (prefix ++ back) < 2 ^ 58
 
 abbrev pub FindsLeast : (ℕ → ℕ → ℕ → Type 0) → Option Pair → Type 0
 FindsLeast F result = MatchOption result (NoneFails F) (λ pair. IsLeastFailure F pair.first pair.last pair.distance)

@@ -3,6 +3,8 @@ ghost use Rattle.road_model.specs.declared.change.ChangeFault.TheVariants.{NoMem
 
 use crate::{ArcNo, Items};
 use std::alloc::{AllocError, AllocFailed};
+use std::error::Error;
+use std::fmt;
 
 /// A new length for an arc.
 #[derive(Clone, Copy, Debug, PartialEq, Eq)]
@@ -23,8 +25,27 @@ pub enum ChangeFault {
     LengthRange,
     /// The newest version is the last that there may be.
     Full,
+    /// Memory was refused.
     NoMemory,
 }
+
+impl fmt::Display for ChangeFault {
+    ghost use Rattle.std.specs.Prelude.{Some};
+    ghost use Rattle.road_model.specs.Messages.{change_text};
+
+    ghost output = { λ fault. Some (change_text fault) };
+
+    fn fmt<W: fmt::Write>(&self, f: &mut fmt::Formatter<W>) -> fmt::Result {
+        f.write_str(match self {
+            ChangeFault::ArcRange => "the arc is outside the graph",
+            ChangeFault::LengthRange => "the length is outside 1 to 4294967295",
+            ChangeFault::Full => "there is no further version",
+            ChangeFault::NoMemory => "out of memory",
+        })
+    }
+}
+
+impl Error for ChangeFault {}
 
 impl From<AllocError> for ChangeFault {
     ghost from_gives = { λ _ e. e ≡ NoMemory };

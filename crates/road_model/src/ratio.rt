@@ -1,6 +1,8 @@
 ghost use Rattle.std.specs.Prelude.{◌≡◌, ◌<◌, ◌≤◌, ◌+◌, ◌*◌, ◌^◌, ◌↔◌, ◌⊎◌, ℕ, IsTrue, IfOk, IsErrOf};
 ghost use Rattle.road_model.specs.Fraction.{Fraction, IsRatio, Allows, IsAbove, IsBelow, Stretches};
 
+use std::error::Error;
+use std::fmt;
 use std::marker::Model;
 
 /// Why a ratio was refused.
@@ -11,6 +13,22 @@ pub enum RatioFault {
     /// The ratio is above its cap.
     TooLarge,
 }
+
+impl fmt::Display for RatioFault {
+    ghost use Rattle.std.specs.Prelude.{Some};
+    ghost use Rattle.road_model.specs.Messages.{ratio_text};
+
+    ghost output = { λ fault. Some (ratio_text fault) };
+
+    fn fmt<W: fmt::Write>(&self, f: &mut fmt::Formatter<W>) -> fmt::Result {
+        f.write_str(match self {
+            RatioFault::Denominator => "the denominator is outside 1 to 1000000",
+            RatioFault::TooLarge => "the ratio is above its cap",
+        })
+    }
+}
+
+impl Error for RatioFault {}
 
 /// A ratio of at most 4, kept as it was given and not reduced. Comparisons are cross products in 128 bits.
 #[derive(Clone, Copy, Debug, PartialEq, Eq)]

@@ -1,4 +1,6 @@
 use crate::{Optimum, PageSpan, Verdict, Vertex};
+use std::error::Error;
+use std::fmt;
 
 /// The numbers of a query as they were given, which may be out of range.
 #[derive(Clone, Copy, Debug, PartialEq, Eq)]
@@ -145,3 +147,72 @@ pub enum ErrorKind {
     /// Memory was refused.
     Memory,
 }
+
+impl ErrorKind {
+    ghost use Rattle.std.specs.Prelude.{◌≡◌};
+    ghost use Rattle.road_model.specs.Messages.{error_number, error_word};
+
+    /// The word that a reply has for it. Programs match it, so it stays as it is; the text of `Display` may be bettered.
+    pub fn word(&self) -> &'static str
+        ensures { result.now ≡ error_word self.now }
+    {
+        match self {
+            ErrorKind::Long => "long",
+            ErrorKind::Syntax => "syntax",
+            ErrorKind::Cursor => "cursor",
+            ErrorKind::Vertex => "vertex",
+            ErrorKind::Ratio => "ratio",
+            ErrorKind::Size => "size",
+            ErrorKind::Behind(_) => "behind",
+            ErrorKind::Gone(_) => "gone",
+            ErrorKind::ArcRange => "arc",
+            ErrorKind::LengthRange => "length",
+            ErrorKind::Full => "full",
+            ErrorKind::Memory => "memory",
+        }
+    }
+
+    /// The number that a reply has after the word, where there is one: of the version that refused.
+    pub fn number(&self) -> Option<u64>
+        ensures { result ≡ error_number self.now }
+    {
+        match self {
+            ErrorKind::Behind(number) | ErrorKind::Gone(number) => Some(*number),
+            _ => None,
+        }
+    }
+}
+
+impl fmt::Display for ErrorKind {
+    ghost use Rattle.std.specs.Prelude.{Some};
+    ghost use Rattle.road_model.specs.Messages.{error_meaning};
+
+    ghost output = { λ kind. Some (error_meaning kind) };
+
+    fn fmt<W: fmt::Write>(&self, f: &mut fmt::Formatter<W>) -> fmt::Result {
+        match self {
+            ErrorKind::Long => write!(f, "the line has more than 1024 bytes"),
+            ErrorKind::Syntax => write!(f, "the line is no request"),
+            ErrorKind::Cursor => write!(f, "the text is no cursor"),
+            ErrorKind::Vertex => write!(f, "a vertex is outside the graph"),
+            ErrorKind::Ratio => write!(
+                f,
+                "a ratio is above its cap, or its denominator is outside 1 to 1000000"
+            ),
+            ErrorKind::Size => write!(f, "the size of a page is outside 1 to 64"),
+            ErrorKind::Behind(number) => {
+                write!(f, "the version asked for is newer than version {number}")
+            }
+            ErrorKind::Gone(number) => write!(
+                f,
+                "the answer of the cursor isn't kept any more in version {number}"
+            ),
+            ErrorKind::ArcRange => write!(f, "the arc is outside the graph"),
+            ErrorKind::LengthRange => write!(f, "the length is outside 1 to 4294967295"),
+            ErrorKind::Full => write!(f, "there is no further version"),
+            ErrorKind::Memory => write!(f, "out of memory"),
+        }
+    }
+}
+
+impl Error for ErrorKind {}

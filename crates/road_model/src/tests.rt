@@ -1,4 +1,4 @@
-use crate::{ArcNo, ArcRow, Items, Ratio, RatioFault, Vertex};
+use crate::{ArcNo, ArcRow, ChangeFault, ErrorKind, Items, Ratio, RatioFault, Vertex};
 use std::test::Fail;
 
 #[test]
@@ -24,6 +24,46 @@ fn ratios_are_refused_by_denominator_and_then_by_size(rt: HostRuntime) -> Result
             Err(found) => assert_eq!(rt; fault, Some(found)),
         }
     }
+    Ok(())
+}
+
+#[test]
+fn a_refusal_has_a_word_a_number_and_a_text(rt: HostRuntime) -> Result<(), Fail> {
+    let rows = [
+        (
+            ErrorKind::Long,
+            "long",
+            None,
+            "the line has more than 1024 bytes",
+        ),
+        (
+            ErrorKind::Behind(7),
+            "behind",
+            Some(7),
+            "the version asked for is newer than version 7",
+        ),
+        (
+            ErrorKind::Gone(1048576),
+            "gone",
+            Some(1048576),
+            "the answer of the cursor isn't kept any more in version 1048576",
+        ),
+        (ErrorKind::Memory, "memory", None, "out of memory"),
+    ];
+    for (kind, word, number, text) in rows {
+        assert_eq!(rt; kind.word(), word);
+        assert_eq!(rt; kind.number(), number);
+        assert_eq!(rt; format!(in rt.alloc(); "{kind}")?.as_str(), text);
+    }
+    Ok(())
+}
+
+#[test]
+fn faults_say_what_is_wrong(rt: HostRuntime) -> Result<(), Fail> {
+    let ratio = format!(in rt.alloc(); "{}", RatioFault::Denominator)?;
+    assert_eq!(rt; ratio.as_str(), "the denominator is outside 1 to 1000000");
+    let change = format!(in rt.alloc(); "{}", ChangeFault::LengthRange)?;
+    assert_eq!(rt; change.as_str(), "the length is outside 1 to 4294967295");
     Ok(())
 }
 

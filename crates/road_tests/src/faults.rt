@@ -6,7 +6,7 @@ use route_server::Status;
 use std::test::Fail;
 
 #[test]
-fn a_fault_ends_the_run_behind_what_was_answered(rt: HostRuntime) -> Result<(), Fail> {
+fn a_fault_ends_the_run_after_what_was_answered(rt: HostRuntime) -> Result<(), Fail> {
     let two: &[u8] = b"optimum 1 3\nversion\n";
     let reply: &[u8] = b"ok 1\noptimum length 11 arcs 3\nend\n";
     let both: &[u8] = b"ok 1\noptimum length 11 arcs 3\nend\nversion 1\n";

@@ -6,12 +6,12 @@ use Rattle.std.proofs.lemmas.Slice.{between_from_start}
 
 -- a piece after the held bytes, which stand at the front
 pub between-grown : (xs ys : List ℕ) (start from room n : ℕ) → start ≡ 0 → take from ys ≡ take from xs → n ≤ room → between start (from + n) ys ≡ between start from xs ++ take n (between from (from + room) ys)
-between-grown xs ys start from room n front same few =
+between-grown xs ys start from room n prefix same few =
     let piece : take n (between from (from + room) ys) ≡ take n (drop from ys) = ap (λ (k : ℕ). take n (take k (drop from ys))) (omega arith) ∙ take-take n room (drop from ys) few in
-    ap (λ (s : ℕ). between s (from + n) ys) front
+    ap (λ (s : ℕ). between s (from + n) ys) prefix
     ∙ between_from_start ys (from + n)
     ∙ take-add from n ys
-    ∙ ap (λ (zs : List ℕ). zs ++ take n (drop from ys)) (same ∙ sym (between_from_start xs from) ∙ ap (λ (s : ℕ). between s from xs) (sym front))
+    ∙ ap (λ (zs : List ℕ). zs ++ take n (drop from ys)) (same ∙ sym (between_from_start xs from) ∙ ap (λ (s : ℕ). between s from xs) (sym prefix))
     ∙ ap (λ (zs : List ℕ). between start from xs ++ zs) (sym piece)
 
 -- the text is the same, held or still to come

@@ -3,4 +3,4 @@ pub mod NumberLemmas
 pub mod LineLemmas
 pub mod HeldLemmas
 pub mod SkipLemmas
-pub mod BehindLemmas
+pub mod BeyondLemmas

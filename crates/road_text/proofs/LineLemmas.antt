@@ -73,22 +73,22 @@ HasNoFeed-from_nowhere hay n le none =
     λ e. none k (omega arith) below (eq-eqb (get_or hay k 0) 10 (get_or_default hay k 0 d (omega arith) ∙ sym (get_or-take n hay k d below) ∙ e)))
 
 -- a prefix without a feed, and a rest without one
-pub HasNoFeed-behind : (bytes : List ℕ) (from n : ℕ) → from + n ≤ length bytes → HasNoFeed (take from bytes) → HasNoFeed (take n (drop from bytes)) → HasNoFeed (take (from + n) bytes)
-HasNoFeed-behind bytes from n le front later =
-    rw (take-add from n bytes) (HasNoFeed-append (take from bytes) (take n (drop from bytes)) front later)
+pub HasNoFeed-beyond : (bytes : List ℕ) (from n : ℕ) → from + n ≤ length bytes → HasNoFeed (take from bytes) → HasNoFeed (take n (drop from bytes)) → HasNoFeed (take (from + n) bytes)
+HasNoFeed-beyond bytes from n le prefix later =
+    rw (take-add from n bytes) (HasNoFeed-append (take from bytes) (take n (drop from bytes)) prefix later)
 
 pub find_feed-none : (bytes : List ℕ) (from : ℕ) → from ≤ length bytes → HasNoFeed (take from bytes) → Nowhere (Passes (is_byte 10) (drop from bytes)) 0 (length (drop from bytes)) → HasNoFeed bytes
-find_feed-none bytes from le front none =
+find_feed-none bytes from le prefix none =
     let rest : List ℕ = drop from bytes in
     let later : HasNoFeed rest = subst (λ (r : List ℕ). HasNoFeed r) (take_all (length rest) rest (omega arith)) (HasNoFeed-from_nowhere rest (length rest) (omega arith) none) in
-    subst (λ (r : List ℕ). HasNoFeed r) (take-append-drop from bytes) (HasNoFeed-append (take from bytes) rest front later)
+    subst (λ (r : List ℕ). HasNoFeed r) (take-append-drop from bytes) (HasNoFeed-append (take from bytes) rest prefix later)
 
 pub find_feed-some : (bytes : List ℕ) (from k : ℕ) → from ≤ length bytes → HasNoFeed (take from bytes) → NoneBefore (Passes (is_byte 10) (drop from bytes)) 0 (length (drop from bytes)) k → Passes (is_byte 10) (drop from bytes) k → IsFeedAt bytes (from + k)
-find_feed-some bytes from k le front none hit =
+find_feed-some bytes from k le prefix none hit =
     let lt : k < length (drop from bytes) = none.high in
     record {
       within = omega (arith, length-drop from bytes);
-      before = HasNoFeed-behind bytes from k (omega (arith, length-drop from bytes)) front (HasNoFeed-from_nowhere (drop from bytes) k (omega arith) none.before);
+      before = HasNoFeed-beyond bytes from k (omega (arith, length-drop from bytes)) prefix (HasNoFeed-from_nowhere (drop from bytes) k (omega arith) none.before);
       feed = sym (get_or-drop from bytes k 0) ∙ eqb-true (get_or (drop from bytes) k 0) 10 hit;
     }
 

@@ -1,5 +1,5 @@
 -- How far a text has been read.
---   IsBehind most spare text rest before   the text goes on with this rest after the lines before, which all
+--   IsBeyond most spare text rest before   the text goes on with this rest after the lines before, which all
 --                                          have their line feeds; of most bytes the lines to come may take spare
 --   IsRead most text all                   the text was read to its end
 --   IsBroken text rest before              a read failed after the lines before
@@ -9,7 +9,7 @@
 use Rattle.std.specs.Prelude.{◌≡◌, ℕ, ◌+◌, ◌<◌, ◌≤◌, List, ◌++◌, length, take}
 use Rattle.road_text.specs.Lines.{lines_of, whole_lines}
 
-pub record IsBehind (most spare : ℕ) (text rest : List ℕ) (before : List (List ℕ)) : Type 0 where
+pub record IsBeyond (most spare : ℕ) (text rest : List ℕ) (before : List (List ℕ)) : Type 0 where
   pub given : List ℕ
   pub is : text ≡ given ++ rest
   pub lines : (more : List ℕ) → lines_of (given ++ more) ≡ before ++ lines_of more

@@ -4,7 +4,7 @@
 --   HandsOut           the reader shows this raw line, or says that it is too long
 --   IsKept             the lines may take as many bytes as before, and no limit changes
 --   Grows              which bytes a try to read more put after those that were held
---   Gives              what such a try took from the source, where it tells
+--   GivesFill              what such a try took from the source, where it tells
 --   Finishes           the held bytes are handed out at the source's end
 use Rattle.std.specs.Prelude.{◌≡◌, ℕ, ◌+◌, ◌<◌, Bool, true, false, List, [], ◌∷◌, ◌++◌, length, take, slice_index}
 use Rattle.road_text.specs.declared.line_reader.LineReader.{LineReader}
@@ -52,11 +52,11 @@ Grows old new fill.End = held new ≡ held old
 Grows old new fill.Spent = held new ≡ held old
 Grows old new fill.Failed = held new ≡ held old
 
-abbrev pub Gives : LineReader → LineReader → List ℕ → List ℕ → Fill → Type 0
-Gives old new before after fill.More = held old ++ before ≡ held new ++ after
-Gives old new before after fill.End = (before ≡ []) × (after ≡ [])
-Gives old new before after fill.Spent = (byte : ℕ) × (before ≡ byte ∷ after) × (length (held old) ≡ budget old)
-Gives old new before after fill.Failed = after ≡ before
+abbrev pub GivesFill : LineReader → LineReader → List ℕ → List ℕ → Fill → Type 0
+GivesFill old new before after fill.More = held old ++ before ≡ held new ++ after
+GivesFill old new before after fill.End = (before ≡ []) × (after ≡ [])
+GivesFill old new before after fill.Spent = (byte : ℕ) × (before ≡ byte ∷ after) × (length (held old) ≡ budget old)
+GivesFill old new before after fill.Failed = after ≡ before
 
 abbrev pub Finishes : LineReader → LineReader → Advance → Type 0
 Finishes old new End = (held old ≡ []) × (new.longest ≡ old.longest)

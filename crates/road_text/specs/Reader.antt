@@ -3,7 +3,7 @@
 --   line_of r     the line that it shows
 --   budget r      how many bytes its lines may still take
 --   limit_of r    the longest line that it shows, its end not counted
---   IsFresh       a new reader: it holds nothing, and its lines may take all the bytes that it allows
+--   IsFreshReader       a new reader: it holds nothing, and its lines may take all the bytes that it allows
 --   IsLine        the text begins with this raw line and its line feed, and this is after it
 --   IsLastLine    the text is this raw line, which has no line feed
 --   Shows         the reader shows the raw line without its end, which is within the limit
@@ -37,20 +37,20 @@ budget r = (r.most - r.taken) + (r.end - r.start)
 abbrev pub limit_of : LineReader → ℕ
 limit_of r = r.longest
 
-pub record IsFresh (r : LineReader) (longest most : ℕ) : Type 0 where
+pub record IsFreshReader (r : LineReader) (longest most : ℕ) : Type 0 where
   pub empty : held r ≡ []
   pub whole : budget r ≡ most
   pub limit : limit_of r ≡ longest
 
-pub record IsLine (text raw behind : List ℕ) : Type 0 where
+pub record IsLine (text raw beyond : List ℕ) : Type 0 where
   pub no_feed : HasNoFeed raw
-  pub is : text ≡ raw ++ 10 ∷ behind
+  pub is : text ≡ raw ++ 10 ∷ beyond
 
-pub record IsLastLine (text raw behind : List ℕ) : Type 0 where
+pub record IsLastLine (text raw beyond : List ℕ) : Type 0 where
   pub no_feed : HasNoFeed raw
   pub some : 0 < length raw
   pub is : text ≡ raw
-  pub nothing : behind ≡ []
+  pub nothing : beyond ≡ []
 
 -- the reader shows the raw line without its end, which is within the limit
 pub record Shows (r : LineReader) (raw : List ℕ) : Type 0 where

@@ -76,14 +76,14 @@ pub struct LineReader {
 }
 
 impl LineReader {
-    ghost use Rattle.road_text.specs.Reader.{held, line_of, budget, limit_of, IsFresh, IsLine, HasTaken, Steps, GoesOn, IsShown};
-    ghost use Rattle.road_text.specs.Filling.{IsFeedAt, IsSameStock, HandsOut, IsKept, Grows, Gives, Finishes};
+    ghost use Rattle.road_text.specs.Reader.{held, line_of, budget, limit_of, IsFreshReader, IsLine, HasTaken, Steps, GoesOn, IsShown};
+    ghost use Rattle.road_text.specs.Filling.{IsFeedAt, IsSameStock, HandsOut, IsKept, Grows, GivesFill, Finishes};
 
     /// A reader that shows lines of up to `longest` bytes, their ends not counted, and lets its
     /// source have up to `most` bytes. It takes its memory here and none later.
     pub fn new(alloc: Global, longest: usize, most: u64) -> Result<LineReader, AllocError>
         requires { longest ≤ MOST_KEPT }
-        ensures { IfOk result (λ reader. IsFresh reader longest most) }
+        ensures { IfOk result (λ reader. IsFreshReader reader longest most) }
     {
         let buffer = vec![in alloc; 0u8; ROOM]?;
         Ok(LineReader {
@@ -152,7 +152,7 @@ impl LineReader {
     /// Moves the held bytes to the front of the buffer.
     fn to_front(&mut self)
         ensures held { held self.new ≡ held self.old }
-        ensures front { self.new.start ≡ 0 }
+        ensures prefix { self.new.start ≡ 0 }
         ensures taken { self.new.taken ≡ self.old.taken }
         ensures kept { IsKept self.old self.new }
     {
@@ -163,13 +163,13 @@ impl LineReader {
 
     /// Reads more after the held bytes, which stand at the front of the buffer.
     fn pull<S: Source>(&mut self, source: &mut S) -> Fill
-        requires front { self.old.start ≡ 0 }
+        requires prefix { self.old.start ≡ 0 }
         requires room { self.old.end < ROOM }
         requires budget { self.old.taken < self.old.most }
         ensures kept { IsKept self.old self.new }
         ensures grows { Grows self.old self.new result }
         ensures told { IfTold (S.left source.old) (S.left source.new)
-            (λ before after. Gives self.old self.new before after result) }
+            (λ before after. GivesFill self.old self.new before after result) }
         ensures count { S.faults source.old ≤ S.faults source.new }
         ensures cause { result ≡ Fill.Failed
             → HasRisen (S.faults source.old) (S.faults source.new) }
@@ -194,7 +194,7 @@ impl LineReader {
         requires { self.now.taken ≡ self.now.most }
         ensures same { Grows self.now self.now result }
         ensures told { IfTold (S.left source.old) (S.left source.new)
-            (λ before after. Gives self.now self.now before after result) }
+            (λ before after. GivesFill self.now self.now before after result) }
         ensures count { S.faults source.old ≤ S.faults source.new }
         ensures cause { result ≡ Fill.Failed
             → HasRisen (S.faults source.old) (S.faults source.new) }
@@ -215,7 +215,7 @@ impl LineReader {
         ensures kept { IsKept self.old self.new }
         ensures grows { Grows self.old self.new result }
         ensures told { IfTold (S.left source.old) (S.left source.new)
-            (λ before after. Gives self.old self.new before after result) }
+            (λ before after. GivesFill self.old self.new before after result) }
         ensures count { S.faults source.old ≤ S.faults source.new }
         ensures cause { result ≡ Fill.Failed
             → HasRisen (S.faults source.old) (S.faults source.new) }
@@ -343,7 +343,7 @@ fn first_of(first: Option<u8>, bytes: &[u8]) -> Option<u8>
 fn read_into<S: Source>(source: &mut S, buffer: &mut [u8], from: usize, to: usize) -> Read
     requires some { from < to }
     requires inside { to ≤ length buffer.old }
-    ensures front { take from buffer.new ≡ take from buffer.old }
+    ensures prefix { take from buffer.new ≡ take from buffer.old }
     ensures reads { Reads (slice_range buffer.new from to)
         (S.left source.old) (S.left source.new) result }
     ensures count { S.faults source.old ≤ S.faults source.new }

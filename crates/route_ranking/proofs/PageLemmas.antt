@@ -21,9 +21,9 @@ page_last {X = X} xs offset first count same past =
     ∙ ap (λ (n : ℕ). drop n xs) same
 
 page_joined : {X : Type 0} (size : ℕ) (xs : List X) (spans : List PageSpan) (offset first count : ℕ) (more : Bool) → first ≡ offset → first + count ≤ length xs → ((more ≡ true) ↔ (first + count < length xs)) → (IsChain (length xs) size (first + count) spans → joined spans xs ≡ drop (first + count) xs) → MatchBool more (IsChain (length xs) size (first + count) spans) (spans ≡ []) → take count (drop first xs) ++ joined spans xs ≡ drop offset xs
-page_joined size xs spans offset first count true same within is_more behind chain =
-    page_then xs offset first count (joined spans xs) same (behind chain)
-page_joined {X = X} size xs spans offset first count false same within is_more behind none =
+page_joined size xs spans offset first count true same within is_more beyond chain =
+    page_then xs offset first count (joined spans xs) same (beyond chain)
+page_joined {X = X} size xs spans offset first count false same within is_more beyond none =
     ap (λ (ss : List PageSpan). take count (drop first xs) ++ joined ss xs) none
     ∙ page_last xs offset first count same (let over = iff_false is_more refl in omega arith)
 

@@ -3,7 +3,7 @@
 --   cursor_text c    the text
 --   with_number n ns   a number before others, where all are given
 --   all_numbers fields   the numbers of all fields, where each is canonical
---   query_with ns    the query of a cursor of these numbers
+--   query_from ns    the query of a cursor of these numbers
 --   cursor_with ns   the cursor of these numbers
 --   of_eleven ns     the same, where they are given and are eleven
 --   cursor_of text   the cursor of a text, where it is one: its numbers have at most 19 digits
@@ -36,8 +36,8 @@ unfoldable pub all_numbers : List (List ℕ) → Option (List ℕ)
 all_numbers [] = Some []
 all_numbers (field ∷ fields) = with_number (canonical_of field) (all_numbers fields)
 
-abbrev pub query_with : List ℕ → CursorQuery
-query_with ns = record {
+abbrev pub query_from : List ℕ → CursorQuery
+query_from ns = record {
   from = slice_index ns 1;
   to = slice_index ns 2;
   gamma = (slice_index ns 3, slice_index ns 4);
@@ -46,7 +46,7 @@ query_with ns = record {
 }
 
 abbrev pub cursor_with : List ℕ → Cursor
-cursor_with ns = record { version = slice_index ns 0; query = query_with ns; size = slice_index ns 9; offset = slice_index ns 10 }
+cursor_with ns = record { version = slice_index ns 0; query = query_from ns; size = slice_index ns 9; offset = slice_index ns 10 }
 
 abbrev pub of_eleven : Option (List ℕ) → Option Cursor
 of_eleven None = None

@@ -3,7 +3,7 @@ use Rattle.std.proofs.Common.{◌≡◌, ℕ, ◌+◌, ◌-◌, ◌<◌, ◌≤�
 use Rattle.std.proofs.lemmas.Bool.{cases_lt}
 use Rattle.std.proofs.lemmas.Bool.Decides.{nat_tests}
 use Rattle.road_text.specs.Lines.{lines_of, whole_lines}
-use Rattle.road_text.specs.Behind.{IsBehind}
+use Rattle.road_text.specs.Behind.{IsBeyond}
 use Rattle.line_front.specs.declared.requests.Parsed.{Parsed}
 use Rattle.route_server.specs.Asking.{asked_by, asked_in, is_quit, lines_within, most_input, NoQuit}
 
@@ -67,22 +67,22 @@ pub within_long : (text : List ℕ) → most_input < length text → lines_withi
 within_long text h = ap (λ (b : Bool). cond {A = List (List ℕ)} b (lines_of text) (whole_lines (take most_input text))) (long_test (length text) most_input h)
 
 -- the first bytes of a text that begins with these
-take_behind : (given rest : List ℕ) (n : ℕ) → length given ≤ n → take n (given ++ rest) ≡ given ++ take (n - length given) rest
-take_behind [] rest n h = ap (λ (k : ℕ). take k rest) (let e : n ≡ n - 0 = omega arith in e)
-take_behind (b ∷ given) rest zero h = absurd (omega arith)
-take_behind (b ∷ given) rest (suc n) h =
-    ap (λ (x : List ℕ). b ∷ x) (take_behind given rest n (omega arith))
+take_beyond : (given rest : List ℕ) (n : ℕ) → length given ≤ n → take n (given ++ rest) ≡ given ++ take (n - length given) rest
+take_beyond [] rest n h = ap (λ (k : ℕ). take k rest) (let e : n ≡ n - 0 = omega arith in e)
+take_beyond (b ∷ given) rest zero h = absurd (omega arith)
+take_beyond (b ∷ given) rest (suc n) h =
+    ap (λ (x : List ℕ). b ∷ x) (take_beyond given rest n (omega arith))
     ∙ ap (λ (k : ℕ). b ∷ (given ++ take k rest)) (let e : n - length given ≡ suc n - suc (length given) = omega arith in e)
 
 -- a text that goes on after these lines has them first, within the limit
-pub within_behind : (spare : ℕ) (text rest : List ℕ) (before : List (List ℕ)) → IsBehind most_input spare text rest before → (more : List (List ℕ)) × (lines_within text ≡ before ++ more)
-within_behind spare text rest before at' =
+pub within_beyond : (spare : ℕ) (text rest : List ℕ) (before : List (List ℕ)) → IsBeyond most_input spare text rest before → (more : List (List ℕ)) × (lines_within text ≡ before ++ more)
+within_beyond spare text rest before at' =
     ⊎_elim
     (λ (long : most_input < length text). (
       whole_lines (take (most_input - length at'.given) rest),
       within_long text long
           ∙ ap (λ (t : List ℕ). whole_lines (take most_input t)) at'.is
-          ∙ ap whole_lines (take_behind at'.given rest most_input (let c : length at'.given + spare ≡ most_input = at'.count in omega arith))
+          ∙ ap whole_lines (take_beyond at'.given rest most_input (let c : length at'.given + spare ≡ most_input = at'.count in omega arith))
           ∙ at'.whole (take (most_input - length at'.given) rest),
     ))
     (λ (short : length text ≤ most_input). (

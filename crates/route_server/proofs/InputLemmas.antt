@@ -4,7 +4,7 @@ use Rattle.std.proofs.lemmas.Bool.Decides.{nat_tests}
 use Rattle.road_text.specs.declared.line_reader.LineReader.{LineReader}
 use Rattle.road_text.specs.declared.line_reader.Advance.TheVariants as advance
 use Rattle.road_text.specs.Reader.{held, line_of, Steps, IsLongLine}
-use Rattle.road_text.proofs.BehindLemmas.{behind_whole, behind_long, read_last, read_long, read_end, over_spent, broken_failed}
+use Rattle.road_text.proofs.BeyondLemmas.{beyond_whole, beyond_long, read_last, read_long, read_end, over_spent, broken_failed}
 use Rattle.road_model.specs.declared.request.ErrorKind.TheVariants.{Long}
 use Rattle.line_front.specs.declared.requests.Parsed.{Parsed}
 use Rattle.line_front.specs.declared.requests.Parsed.TheVariants as parsed
@@ -24,7 +24,7 @@ asked_long line h = ap (λ (b : Bool). cond {A = Parsed} b (parsed.Error Long) (
 
 pub go_whole : (old new : LineReader) (asked : Parsed) → asked ≡ asked_by (line_of new) → (rest after : List ℕ) → Steps old new (held old ++ rest) after advance.Whole → Goes old new rest after (the.More asked)
 go_whole old new asked e rest after step text before at' =
-    record { line = line_of new; is = e; behind = behind_whole most_input old new text rest after before at' step }
+    record { line = line_of new; is = e; beyond = beyond_whole most_input old new text rest after before at' step }
 
 pub go_last : (old new : LineReader) (asked : Parsed) → asked ≡ asked_by (line_of new) → (rest after : List ℕ) → Steps old new (held old ++ rest) after advance.Last → Goes old new rest after (the.Last asked)
 go_last old new asked e rest after step text before at' =
@@ -35,8 +35,8 @@ long_line longest line first e h = let long : longest < length line = h.long in 
 
 go_long : (old new : LineReader) (first : Option ℕ) → old.longest ≡ 1024 → (rest after : List ℕ) → Steps old new (held old ++ rest) after (advance.Long true first) → Goes old new rest after (the.More (parsed.Error Long))
 go_long old new first e rest after step text before at' =
-    let found = behind_long most_input old new text rest after before first at' step in
-    record { line = found.0; is = long_line old.longest found.0 first e found.1; behind = found.2 }
+    let found = beyond_long most_input old new text rest after before first at' step in
+    record { line = found.0; is = long_line old.longest found.0 first e found.1; beyond = found.2 }
 
 go_long_last : (old new : LineReader) (first : Option ℕ) → old.longest ≡ 1024 → (rest after : List ℕ) → Steps old new (held old ++ rest) after (advance.Long false first) → Goes old new rest after (the.Last (parsed.Error Long))
 go_long_last old new first e rest after step text before at' =

@@ -3,9 +3,9 @@ use Rattle.std.proofs.Common.{◌≡◌, ℕ, false, List, [], ◌∷◌, ◌++�
 use Rattle.road_io.specs.Told.{Told, IfTold}
 use Rattle.road_io.proofs.ToldLemmas.{IfTold_both, told_same}
 use Rattle.road_text.specs.declared.line_reader.LineReader.{LineReader}
-use Rattle.road_text.specs.Reader.{IsFresh}
+use Rattle.road_text.specs.Reader.{IsFreshReader}
 use Rattle.road_text.specs.Behind.{IsOver}
-use Rattle.road_text.proofs.BehindLemmas.{IsBehind-fresh}
+use Rattle.road_text.proofs.BeyondLemmas.{IsBeyond-fresh}
 use Rattle.line_front.specs.declared.requests.Parsed.{Parsed}
 use Rattle.route_server.specs.declared.input.NextLine.TheVariants as next
 use Rattle.route_server.specs.Asking.{is_quit, most_input, NoQuit}
@@ -21,9 +21,9 @@ pub record Reading (reader : LineReader) (text rest : List ℕ) : Type 0 where
 abbrev pub ReadsOn : LineReader → Option Told → Option Told → Type 0
 ReadsOn reader a b = IfTold a b (λ text rest. Reading reader text rest)
 
-pub reads_start : (reader : LineReader) (a : Option Told) → IsFresh reader 1024 most_input → ReadsOn reader a a
+pub reads_start : (reader : LineReader) (a : Option Told) → IsFreshReader reader 1024 most_input → ReadsOn reader a a
 reads_start reader a fresh =
-    told_same a _ (λ (text : List ℕ). record { before = []; at_line = IsBehind-fresh reader 1024 most_input text fresh; unquit = tt })
+    told_same a _ (λ (text : List ℕ). record { before = []; at_line = IsBeyond-fresh reader 1024 most_input text fresh; unquit = tt })
 
 pub reads_more : (old new : LineReader) (asked : Parsed) (a b b' : Option Told) → is_quit asked ≡ false → ReadsOn old a b → IfTold b b' (λ rest after. Goes old new rest after (next.More asked)) → ReadsOn new a b'
 reads_more old new asked a b b' q h k =
@@ -32,7 +32,7 @@ reads_more old new asked a b b' q h k =
     let one : OneMore new text after r.before asked = g text r.before r.at_line in
     record {
       before = r.before ++ one.line ∷ [];
-      at_line = one.behind;
+      at_line = one.beyond;
       unquit = NoQuit-push r.before one.line r.unquit (ap is_quit (sym one.is) ∙ q);
     }) h k
 

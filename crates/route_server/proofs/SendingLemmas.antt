@@ -14,7 +14,7 @@ use Rattle.route_server.specs.declared.serve.Served.{Served}
 use Rattle.route_server.specs.declared.serve.Served.TheVariants as served
 use Rattle.route_server.specs.Asking.{is_quit}
 use Rattle.route_server.specs.Serving.{IsReply}
-use Rattle.route_server.specs.Served.{Serves, Sends}
+use Rattle.route_server.specs.Served.{Serves, SendsReply}
 
 -- a line that says nothing
 pub serves_nothing : (g : Graph) (state next : State) (asked : Parsed) (a : Option Told) → (asked ≡ parsed.Empty) × (next ≡ state) → IfTold a a (λ out now. Serves g state asked out now next served.Written)
@@ -30,18 +30,18 @@ serves_nothing g state next asked a e =
 pub serves_quit : (g : Graph) (state next : State) (asked : Parsed) (a : Option Told) → is_quit asked ≡ true → IfTold a a (λ out now. Serves g state asked out now next served.Quit)
 serves_quit g state next asked a e = told_same a _ (λ (out : List ℕ). record { quit = e; is = refl })
 
-sent : (g : Graph) (state next : State) (asked : Parsed) (reply : Reply) (shown : Option Plan) (out now : List ℕ) (how : Served) → is_quit asked ≡ false → IsReply g state asked (reply_text reply shown) next → Sends reply shown out now how → Serves g state asked out now next how
+sent : (g : Graph) (state next : State) (asked : Parsed) (reply : Reply) (shown : Option Plan) (out now : List ℕ) (how : Served) → is_quit asked ≡ false → IsReply g state asked (reply_text reply shown) next → SendsReply reply shown out now how → Serves g state asked out now next how
 sent g state next asked reply shown out now served.Written q r s = record { unquit = q; bytes = reply_text reply shown; reply = r; is = s }
 sent g state next asked reply shown out now served.Quit q r s = absurd s
 sent g state next asked reply shown out now served.WriteFault q r s =
-    record { next = next; unquit = q; bytes = reply_text reply shown; reply = r; front = s.front; behind = s.behind; parts = s.parts; is = s.written }
+    record { next = next; unquit = q; bytes = reply_text reply shown; reply = r; prefix = s.prefix; beyond = s.beyond; parts = s.parts; is = s.written }
 sent g state next asked reply shown out now served.NoMemory q r s = s
 
 -- a line that has a reply
-pub serves_sent : (g : Graph) (state next : State) (asked : Parsed) (reply : Reply) (shown beside : Option Plan) (a b : Option Told) (how : Served) → beside ≡ shown → (is_quit asked ≡ false) × IsReply g state asked (reply_text reply shown) next × HasItems reply shown → IfTold a b (λ out now. Sends reply beside out now how) → IfTold a b (λ out now. Serves g state asked out now next how)
+pub serves_sent : (g : Graph) (state next : State) (asked : Parsed) (reply : Reply) (shown beside : Option Plan) (a b : Option Told) (how : Served) → beside ≡ shown → (is_quit asked ≡ false) × IsReply g state asked (reply_text reply shown) next × HasItems reply shown → IfTold a b (λ out now. SendsReply reply beside out now how) → IfTold a b (λ out now. Serves g state asked out now next how)
 serves_sent g state next asked reply shown beside a b how e said h =
-    IfTold_then a b _ _ (λ (out now : List ℕ) (s : Sends reply beside out now how).
-    sent g state next asked reply shown out now how said.0 said.1 (subst (λ (x : Option Plan). Sends reply x out now how) e s)) h
+    IfTold_then a b _ _ (λ (out now : List ℕ) (s : SendsReply reply beside out now how).
+    sent g state next asked reply shown out now how said.0 said.1 (subst (λ (x : Option Plan). SendsReply reply x out now how) e s)) h
 
 -- the same graph, by another name
 pub serves_over : (g h : Graph) (state next : State) (asked : Parsed) (a b : Option Told) (how : Served) → h ≡ g → IfTold a b (λ out now. Serves h state asked out now next how) → IfTold a b (λ out now. Serves g state asked out now next how)

@@ -5,9 +5,9 @@ use Rattle.road_model.specs.Graph.{Graph}
 use Rattle.road_io.specs.Told.{Told, IfTold}
 use Rattle.road_io.proofs.ToldLemmas.{IfTold_then, IfTold_both, told_same}
 use Rattle.road_text.specs.declared.line_reader.LineReader.{LineReader}
-use Rattle.road_text.specs.Reader.{held, budget, IsFresh}
-use Rattle.road_text.specs.Behind.{IsBehind, IsRead, IsOver, IsBroken}
-use Rattle.road_text.proofs.BehindLemmas.{IsBehind-fresh}
+use Rattle.road_text.specs.Reader.{held, budget, IsFreshReader}
+use Rattle.road_text.specs.Behind.{IsBeyond, IsRead, IsOver, IsBroken}
+use Rattle.road_text.proofs.BeyondLemmas.{IsBeyond-fresh}
 use Rattle.road_model.specs.declared.request.Reply.TheVariants as reply
 use Rattle.desk_core.specs.States.{State}
 use Rattle.desk_core.specs.Runs.{Turn, IsRun}
@@ -19,10 +19,10 @@ use Rattle.route_server.specs.declared.serve.Served.TheVariants as served
 use Rattle.route_server.specs.declared.status.Status.{Status}
 use Rattle.route_server.specs.declared.status.Status.TheVariants as status
 use Rattle.route_server.specs.Asking.{asked_by, asked_in, is_quit, lines_within, most_input, NoQuit}
-use Rattle.route_server.specs.Serving.{opening, IsReply, AreSaid, IsReplies, Written, WrittenFront, IsDone, IsStarved, Stops}
-use Rattle.route_server.specs.Served.{IsServed, IsServedFront, IsQuit, Serves}
+use Rattle.route_server.specs.Serving.{opening, IsReply, AreSaid, IsReplies, Written, WrittenPrefix, IsDone, IsStarved, Stops}
+use Rattle.route_server.specs.Served.{IsServed, IsServedPrefix, IsQuit, Serves}
 use Rattle.route_server.specs.Input.{IsAt, OneMore, OneLast, Goes}
-use Rattle.route_server.proofs.AskingLemmas.{asked_in-nothing, asked_in-push, asked_in-cut, NoQuit-push, quits, within_short, within_behind}
+use Rattle.route_server.proofs.AskingLemmas.{asked_in-nothing, asked_in-push, asked_in-cut, NoQuit-push, quits, within_short, within_beyond}
 
 run_append : (g : Graph) (turns more : List Turn) (state mid last : State) → IsRun g state turns mid → IsRun g mid more last → IsRun g state (turns ++ more) last
 run_append g [] more state mid last h k = subst (λ (s : State). IsRun g s more last) h k
@@ -93,14 +93,14 @@ written_push g state next before line asked out mid now e h w s = record {
   is = s.is ∙ (ap (λ (b : List ℕ). b ++ s.bytes) w.is ∙ append_assoc out w.bytes s.bytes);
 }
 
-written_front : (g : Graph) (state : State) (before : List (List ℕ)) (line : List ℕ) (asked : Parsed) (out mid now : List ℕ) → asked ≡ asked_by line → NoQuit before → Written g before out mid state → (s : IsServedFront g state asked mid now) → WrittenFront g (before ++ line ∷ []) out now s.next
-written_front g state before line asked out mid now e h w s = record {
+written_prefix : (g : Graph) (state : State) (before : List (List ℕ)) (line : List ℕ) (asked : Parsed) (out mid now : List ℕ) → asked ≡ asked_by line → NoQuit before → Written g before out mid state → (s : IsServedPrefix g state asked mid now) → WrittenPrefix g (before ++ line ∷ []) out now s.next
+written_prefix g state before line asked out mid now e h w s = record {
   bytes = w.bytes ++ s.bytes;
   replies = replies_push g state s.next before line asked w.bytes s.bytes e h s.unquit w.replies s.reply;
-  front = w.bytes ++ s.front;
-  behind = s.behind;
-  parts = ap (λ (b : List ℕ). w.bytes ++ b) s.parts ∙ sym (append_assoc w.bytes s.front s.behind);
-  is = s.is ∙ (ap (λ (b : List ℕ). b ++ s.front) w.is ∙ append_assoc out w.bytes s.front);
+  prefix = w.bytes ++ s.prefix;
+  beyond = s.beyond;
+  parts = ap (λ (b : List ℕ). w.bytes ++ b) s.parts ∙ sym (append_assoc w.bytes s.prefix s.beyond);
+  is = s.is ∙ (ap (λ (b : List ℕ). b ++ s.prefix) w.is ∙ append_assoc out w.bytes s.prefix);
 }
 
 -- lines that ask the same get the same replies
@@ -132,11 +132,11 @@ nothing_written g out = record {
   is = sym (append-nil out);
 }
 
-pub runs_start : (g : Graph) (state : State) (reader : LineReader) (a c : Option Told) → state ≡ opening → IsFresh reader 1024 most_input → Runs g state reader a a c c
+pub runs_start : (g : Graph) (state : State) (reader : LineReader) (a c : Option Told) → state ≡ opening → IsFreshReader reader 1024 most_input → Runs g state reader a a c c
 runs_start g state reader a c start fresh =
     told_same a _ (λ (text : List ℕ). told_same c _ (λ (out : List ℕ). record {
       before = [];
-      at_line = IsBehind-fresh reader 1024 most_input text fresh;
+      at_line = IsBeyond-fresh reader 1024 most_input text fresh;
       written = subst (λ (s : State). Written g [] out out s) (sym start) (nothing_written g out);
       unquit = tt;
     }))
@@ -174,15 +174,15 @@ runs_more g state next_state old new asked a b b' c d d' h k l =
     let one : OneMore new text after r.before asked = q text r.before r.at_line in
     record {
       before = r.before ++ one.line ∷ [];
-      at_line = one.behind;
+      at_line = one.beyond;
       written = written_push g state next_state r.before one.line asked out mid now one.is r.unquit r.written s;
       unquit = NoQuit-push r.before one.line r.unquit (ap is_quit (sym one.is) ∙ s.unquit);
     }) h k l
 
 -- the line ends the run, and more would follow
-quit_here : (g : Graph) (state : State) (spare : ℕ) (text left rest out mid now : List ℕ) (before : List (List ℕ)) (line : List ℕ) (asked : Parsed) → asked ≡ asked_by line → IsBehind most_input spare text left (before ++ line ∷ []) → NoQuit before → Written g before out mid state → IsQuit asked mid now → IsDone g text rest out now
+quit_here : (g : Graph) (state : State) (spare : ℕ) (text left rest out mid now : List ℕ) (before : List (List ℕ)) (line : List ℕ) (asked : Parsed) → asked ≡ asked_by line → IsBeyond most_input spare text left (before ++ line ∷ []) → NoQuit before → Written g before out mid state → IsQuit asked mid now → IsDone g text rest out now
 quit_here g state spare text left rest out mid now before line asked e at' h w q =
-    let found = within_behind spare text left (before ++ line ∷ []) at' in
+    let found = within_beyond spare text left (before ++ line ∷ []) at' in
     let quit = ap is_quit (sym e) ∙ q.quit in
     record {
       last = state;
@@ -195,15 +195,15 @@ ends_quit g state next_state old new asked a b b' c d d' h k l =
     both_steps a b b' c d d' (Running g state old) (λ rest after. Goes old new rest after (next.More asked)) (λ out now. Serves g state asked out now next_state served.Quit) (λ text rest out now. Stops g text rest out now status.Done)
     (λ (text rest after out mid now : List ℕ) (r : Running g state old text rest out mid) (q : Goes old new rest after (next.More asked)) (s : IsQuit asked mid now).
     let one : OneMore new text after r.before asked = q text r.before r.at_line in
-    quit_here g state (budget new) text (held new ++ after) after out mid now r.before one.line asked one.is one.behind r.unquit r.written s) h k l
+    quit_here g state (budget new) text (held new ++ after) after out mid now r.before one.line asked one.is one.beyond r.unquit r.written s) h k l
 
 pub ends_more_fault : (g : Graph) (state next_state : State) (old new : LineReader) (asked : Parsed) (a b b' c d d' : Option Told) → Runs g state old a b c d → IfTold b b' (λ rest after. Goes old new rest after (next.More asked)) → IfTold d d' (λ out now. Serves g state asked out now next_state served.WriteFault) → Ends g a b' c d' status.WriteFault
 ends_more_fault g state next_state old new asked a b b' c d d' h k l =
     both_steps a b b' c d d' (Running g state old) (λ rest after. Goes old new rest after (next.More asked)) (λ out now. Serves g state asked out now next_state served.WriteFault) (λ text rest out now. Stops g text rest out now status.WriteFault)
-    (λ (text rest after out mid now : List ℕ) (r : Running g state old text rest out mid) (q : Goes old new rest after (next.More asked)) (s : IsServedFront g state asked mid now).
+    (λ (text rest after out mid now : List ℕ) (r : Running g state old text rest out mid) (q : Goes old new rest after (next.More asked)) (s : IsServedPrefix g state asked mid now).
     let one : OneMore new text after r.before asked = q text r.before r.at_line in
-    let found = within_behind (budget new) text (held new ++ after) (r.before ++ one.line ∷ []) one.behind in
-    record { last = s.next; some = r.before ++ one.line ∷ []; others = found.0; parts = found.1; written = written_front g state r.before one.line asked out mid now one.is r.unquit r.written s }) h k l
+    let found = within_beyond (budget new) text (held new ++ after) (r.before ++ one.line ∷ []) one.beyond in
+    record { last = s.next; some = r.before ++ one.line ∷ []; others = found.0; parts = found.1; written = written_prefix g state r.before one.line asked out mid now one.is r.unquit r.written s }) h k l
 
 starved : (g : Graph) (state : State) (text rest out mid now : List ℕ) (some others : List (List ℕ)) → lines_within text ≡ some ++ others → Written g some out mid state → now ≡ mid → IsStarved g text rest out now
 starved g state text rest out mid now some others e w s =
@@ -213,7 +213,7 @@ pub ends_more_memory : (g : Graph) (state next_state : State) (old new : LineRea
 ends_more_memory g state next_state old new asked a b b' c d d' h k l =
     both_steps a b b' c d d' (Running g state old) (λ rest after. Goes old new rest after (next.More asked)) (λ out now. Serves g state asked out now next_state served.NoMemory) (λ text rest out now. Stops g text rest out now status.NoMemory)
     (λ (text rest after out mid now : List ℕ) (r : Running g state old text rest out mid) (q : Goes old new rest after (next.More asked)) (s : now ≡ mid).
-    let found = within_behind (budget old) text (held old ++ rest) r.before r.at_line in
+    let found = within_beyond (budget old) text (held old ++ rest) r.before r.at_line in
     starved g state text after out mid now r.before found.0 found.1 r.written s) h k l
 
 -- all lines were read
@@ -243,15 +243,15 @@ ends_last_quit g state next_state old new asked a b b' c d d' h k l =
 pub ends_last_fault : (g : Graph) (state next_state : State) (old new : LineReader) (asked : Parsed) (a b b' c d d' : Option Told) → Runs g state old a b c d → IfTold b b' (λ rest after. Goes old new rest after (next.Last asked)) → IfTold d d' (λ out now. Serves g state asked out now next_state served.WriteFault) → Ends g a b' c d' status.WriteFault
 ends_last_fault g state next_state old new asked a b b' c d d' h k l =
     both_steps a b b' c d d' (Running g state old) (λ rest after. Goes old new rest after (next.Last asked)) (λ out now. Serves g state asked out now next_state served.WriteFault) (λ text rest out now. Stops g text rest out now status.WriteFault)
-    (λ (text rest after out mid now : List ℕ) (r : Running g state old text rest out mid) (q : Goes old new rest after (next.Last asked)) (s : IsServedFront g state asked mid now).
+    (λ (text rest after out mid now : List ℕ) (r : Running g state old text rest out mid) (q : Goes old new rest after (next.Last asked)) (s : IsServedPrefix g state asked mid now).
     let one : OneLast text r.before asked = q text r.before r.at_line in
-    record { last = s.next; some = r.before ++ one.line ∷ []; others = []; parts = within_short text one.read.short ∙ one.read.lines ∙ sym (append-nil (r.before ++ one.line ∷ [])); written = written_front g state r.before one.line asked out mid now one.is r.unquit r.written s }) h k l
+    record { last = s.next; some = r.before ++ one.line ∷ []; others = []; parts = within_short text one.read.short ∙ one.read.lines ∙ sym (append-nil (r.before ++ one.line ∷ [])); written = written_prefix g state r.before one.line asked out mid now one.is r.unquit r.written s }) h k l
 
 pub ends_last_memory : (g : Graph) (state next_state : State) (old new : LineReader) (asked : Parsed) (a b b' c d d' : Option Told) → Runs g state old a b c d → IfTold b b' (λ rest after. Goes old new rest after (next.Last asked)) → IfTold d d' (λ out now. Serves g state asked out now next_state served.NoMemory) → Ends g a b' c d' status.NoMemory
 ends_last_memory g state next_state old new asked a b b' c d d' h k l =
     both_steps a b b' c d d' (Running g state old) (λ rest after. Goes old new rest after (next.Last asked)) (λ out now. Serves g state asked out now next_state served.NoMemory) (λ text rest out now. Stops g text rest out now status.NoMemory)
     (λ (text rest after out mid now : List ℕ) (r : Running g state old text rest out mid) (q : Goes old new rest after (next.Last asked)) (s : now ≡ mid).
-    let found = within_behind (budget old) text (held old ++ rest) r.before r.at_line in
+    let found = within_beyond (budget old) text (held old ++ rest) r.before r.at_line in
     starved g state text after out mid now r.before found.0 found.1 r.written s) h k l
 
 pub ends_end : (g : Graph) (state next_state : State) (old new : LineReader) (a b b' c d : Option Told) → Runs g state old a b c d → IfTold b b' (λ rest after. Goes old new rest after next.End) → Ends g a b' c d status.Done

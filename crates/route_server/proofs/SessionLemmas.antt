@@ -36,7 +36,7 @@ use Rattle.desk_core.proofs.KeptLemmas.{desk_step, step_keeps, staged_keeps, pub
 use Rattle.desk_core.proofs.Passed.{passed_ok}
 use Rattle.line_front.specs.Replies.{HasItems}
 use Rattle.route_server.specs.Asking.{is_quit_request}
-use Rattle.route_server.specs.Sessions.{SessionState, state_of, versions_of, IsChange, IsMade, IsSound}
+use Rattle.route_server.specs.Sessions.{SessionState, state_of, versions_of, IsChange, IsChangeMade, IsSound}
 use Rattle.route_server.proofs.ChangeLemmas.{SameSize, after_all-size, change_fault-push, change_fault-size}
 
 -- ---- what a page shows
@@ -146,7 +146,7 @@ may l the.Quit h = absurd h
 tested_here : (g : Graph) (state : State) (l : Limits) (request : Request) (t o : Result Asked ErrorKind) → l ≡ limits_in g state request → t ≡ outcome l request → t ≡ o → outcome (limits_in g state request) request ≡ o
 tested_here g state l request t o e is done = ap (λ (x : Limits). outcome x request) (sym e) ∙ sym is ∙ done
 
-pub change_step : (g : Graph) (state next : State) (l : Limits) (request : Request) (t : Result Asked ErrorKind) (a : Asked) (r : Reply) (shown : Option Plan) → l ≡ limits_in g state request → t ≡ outcome l request → t ≡ Ok a → IsChange request → IsMade g state a r shown next → IsStep g state request r shown next
+pub change_step : (g : Graph) (state next : State) (l : Limits) (request : Request) (t : Result Asked ErrorKind) (a : Asked) (r : Reply) (shown : Option Plan) → l ≡ limits_in g state request → t ≡ outcome l request → t ≡ Ok a → IsChange request → IsChangeMade g state a r shown next → IsStep g state request r shown next
 change_step g state next l request t a r shown e is ok h (inl made) =
     subst (λ (o : Result Asked ErrorKind). IsAnswered g state request o r shown next) (sym (tested_here g state l request t (Ok a) e is ok)) (inl made)
 change_step g state next l request t a r shown e is ok h (inr refused) =

@@ -1,18 +1,18 @@
 -- What a run that writes one text does: out stood written before, now stands written.
 --   IsGiven IsText out now          a text that is one stands after what stood before
---   IsGivenFront IsText out now     a prefix of such a text does
---   Gives IsText out now status     Done: such a text stands there; WriteFault: a prefix of one does; where a read
+--   IsGivenPrefix IsText out now     a prefix of such a text does
+--   GivesText IsText out now status     Done: such a text stands there; WriteFault: a prefix of one does; where a read
 --                                   failed or memory was refused, nothing was written
 --   Refuses fault status            the graph's first fault; a failed read or refused memory may end the run before it
 --                                   is found
---   GivesGraph IsText r ..          Gives of the graph, or its first fault is refused and nothing was written
+--   GivesGraph IsText r ..          GivesText of the graph, or its first fault is refused and nothing was written
 --   GivesOf IsText file ..          the same of what a file gives; where there is no such file, a read fault, and
 --                                   nothing was written
 --   check_text g                    the line that says how large a graph is
 --   IsCheck g text, IsPrint g text  the text is that line, or the canonical text of the graph
 --   ends_by put                     how a run ends with its last write
 use Rattle.std.specs.Prelude.{◌≡◌, ℕ, List, [], ◌∷◌, ◌++◌, Option, Some, None, Result, Ok, Err, codes, decimal}
-use Rattle.road_io.specs.Sink.{WritesFront}
+use Rattle.road_io.specs.Sink.{WritesPrefix}
 use Rattle.road_model.specs.Graph.{Graph, arc_count}
 use Rattle.dimacs_reader.specs.declared.fault.GraphFault.{GraphFault}
 use Rattle.dimacs_reader.specs.Gr.{gr_text}
@@ -27,19 +27,19 @@ pub record IsGiven (IsText : List ℕ → Type 0) (out now : List ℕ) : Type 0 
   pub is_text : IsText text
   pub is : now ≡ out ++ text
 
-pub record IsGivenFront (IsText : List ℕ → Type 0) (out now : List ℕ) : Type 0 where
+pub record IsGivenPrefix (IsText : List ℕ → Type 0) (out now : List ℕ) : Type 0 where
   pub text : List ℕ
   pub is_text : IsText text
-  pub is : WritesFront text out now
+  pub is : WritesPrefix text out now
 
-abbrev pub Gives : (List ℕ → Type 0) → List ℕ → List ℕ → Status → Type 0
-Gives IsText out now the.Done = IsGiven IsText out now
-Gives IsText out now the.Usage = ⊥
-Gives IsText out now (the.GraphRefused fault) = ⊥
-Gives IsText out now the.ReadFault = now ≡ out
-Gives IsText out now the.WriteFault = IsGivenFront IsText out now
-Gives IsText out now the.NoMemory = now ≡ out
-Gives IsText out now the.InputLong = ⊥
+abbrev pub GivesText : (List ℕ → Type 0) → List ℕ → List ℕ → Status → Type 0
+GivesText IsText out now the.Done = IsGiven IsText out now
+GivesText IsText out now the.Usage = ⊥
+GivesText IsText out now (the.GraphRefused fault) = ⊥
+GivesText IsText out now the.ReadFault = now ≡ out
+GivesText IsText out now the.WriteFault = IsGivenPrefix IsText out now
+GivesText IsText out now the.NoMemory = now ≡ out
+GivesText IsText out now the.InputLong = ⊥
 
 abbrev pub Refuses : GraphFault → Status → Type 0
 Refuses fault the.Done = ⊥
@@ -51,7 +51,7 @@ Refuses fault the.NoMemory = Unit {0}
 Refuses fault the.InputLong = ⊥
 
 abbrev pub GivesGraph : (Graph → List ℕ → Type 0) → Result Graph GraphFault → List ℕ → List ℕ → Status → Type 0
-GivesGraph IsText (Ok graph) out now status = Gives (IsText graph) out now status
+GivesGraph IsText (Ok graph) out now status = GivesText (IsText graph) out now status
 GivesGraph IsText (Err fault) out now status = Refuses fault status × (now ≡ out)
 
 abbrev pub GivesOf : (Graph → List ℕ → Type 0) → Option (List ℕ) → List ℕ → List ℕ → Status → Type 0

@@ -13,19 +13,19 @@
 use Rattle.std.specs.Prelude.{◌≡◌, ℕ, List, [], ◌∷◌, ◌++◌}
 use Rattle.road_text.specs.declared.line_reader.LineReader.{LineReader}
 use Rattle.road_text.specs.Reader.{held, budget}
-use Rattle.road_text.specs.Behind.{IsBehind, IsRead, IsOver, IsBroken}
+use Rattle.road_text.specs.Behind.{IsBeyond, IsRead, IsOver, IsBroken}
 use Rattle.line_front.specs.declared.requests.Parsed.{Parsed}
 use Rattle.route_server.specs.declared.input.NextLine.{NextLine}
 use Rattle.route_server.specs.declared.input.NextLine.TheVariants as the
 use Rattle.route_server.specs.Asking.{asked_by, most_input}
 
 abbrev pub IsAt : LineReader → List ℕ → List ℕ → List (List ℕ) → Type 0
-IsAt reader text rest before = IsBehind most_input (budget reader) text (held reader ++ rest) before
+IsAt reader text rest before = IsBeyond most_input (budget reader) text (held reader ++ rest) before
 
 pub record OneMore (reader : LineReader) (text rest : List ℕ) (before : List (List ℕ)) (asked : Parsed) : Type 0 where
   pub line : List ℕ
   pub is : asked ≡ asked_by line
-  pub behind : IsAt reader text rest (before ++ line ∷ [])
+  pub beyond : IsAt reader text rest (before ++ line ∷ [])
 
 pub record OneLast (text : List ℕ) (before : List (List ℕ)) (asked : Parsed) : Type 0 where
   pub line : List ℕ

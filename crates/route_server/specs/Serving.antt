@@ -9,7 +9,7 @@
 --                              among them
 --   IsReplies g state asked bytes last   the same, where the turns are a run from the state to the last
 --   Written g lines out now last   the replies to these lines stand after what stood before, from the opening on
---   WrittenFront ..            a prefix of these replies stands there
+--   WrittenPrefix ..            a prefix of these replies stands there
 --   Stops g text rest out now status   how a run over the lines of a text may end: rest is what is left to read,
 --                              out what stood written before, now what stands written
 --     Done        every line has its reply, to the end of the text or to the line that ends the run
@@ -76,13 +76,13 @@ pub record Written (g : Graph) (lines : List (List ℕ)) (out now : List ℕ) (l
   pub is : now ≡ out ++ bytes
 
 -- a prefix of them
-pub record WrittenFront (g : Graph) (lines : List (List ℕ)) (out now : List ℕ) (last : State) : Type 0 where
+pub record WrittenPrefix (g : Graph) (lines : List (List ℕ)) (out now : List ℕ) (last : State) : Type 0 where
   pub bytes : List ℕ
   pub replies : IsReplies g opening (asked_in lines) bytes last
-  pub front : List ℕ
-  pub behind : List ℕ
-  pub parts : bytes ≡ front ++ behind
-  pub is : now ≡ out ++ front
+  pub prefix : List ℕ
+  pub beyond : List ℕ
+  pub parts : bytes ≡ prefix ++ beyond
+  pub is : now ≡ out ++ prefix
 
 pub record IsDone (g : Graph) (text rest out now : List ℕ) : Type 0 where
   pub last : State
@@ -107,7 +107,7 @@ pub record IsUnwritten (g : Graph) (text rest out now : List ℕ) : Type 0 where
   pub some : List (List ℕ)
   pub others : List (List ℕ)
   pub parts : lines_within text ≡ some ++ others
-  pub written : WrittenFront g some out now last
+  pub written : WrittenPrefix g some out now last
 
 pub record IsStarved (g : Graph) (text rest out now : List ℕ) : Type 0 where
   pub last : State

@@ -7,7 +7,7 @@
 --   last_plan s     the plan that was used last, which a page is of
 --   IsChange r      the request is for a change: a new length of an arc, or a new version
 --   IsSound s       each kept plan is the answer of its key, and no staged change has a fault
---   IsMade g state asked reply shown next   a change was made, which is replied; or memory was refused, and the state stays
+--   IsChangeMade g state asked reply shown next   a change was made, which is replied; or memory was refused, and the state stays
 --   refusal_of f    what is replied where a new version is refused
 use Rattle.std.specs.Prelude.{◌≡◌, ◌⊎◌, List, [], Option, None}
 use Rattle.road_model.specs.declared.answer.Plan.{Plan}
@@ -55,8 +55,8 @@ pub record IsSound (s : SessionState) : Type 0 where
   pub answers : AreAnswers s.base (versions_of s) s.desk
   pub faultless : change_fault s.base s.staged ≡ None
 
-abbrev pub IsMade : Graph → State → Asked → Reply → Option Plan → State → Type 0
-IsMade g state asked r shown next =
+abbrev pub IsChangeMade : Graph → State → Asked → Reply → Option Plan → State → Type 0
+IsChangeMade g state asked r shown next =
     IsAnswerTo g state asked r shown next ⊎ ((r ≡ reply.Error error.Memory) × (next ≡ state))
 
 abbrev pub refusal_of : ChangeFault → ErrorKind

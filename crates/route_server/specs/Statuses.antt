@@ -1,6 +1,8 @@
--- The number that the process ends with.
+-- How a run ended: the number that the process ends with, and what it says on standard error.
 --   status_number status   0 where the work was done, else one for each reason why it wasn't
-use Rattle.std.specs.Prelude.{ℕ}
+--   status_text status     what it says, which the program writes after `road: ` where the work wasn't done
+use Rattle.std.specs.Prelude.{ℕ, List, ◌++◌, codes, decimal}
+use Rattle.dimacs_reader.specs.Messages.{kind_word}
 use Rattle.route_server.specs.declared.status.Status.{Status}
 use Rattle.route_server.specs.declared.status.Status.TheVariants.{Done, Usage, GraphRefused, ReadFault, WriteFault, NoMemory, InputLong}
 
@@ -12,3 +14,12 @@ status_number ReadFault = 4
 status_number WriteFault = 5
 status_number NoMemory = 6
 status_number InputLong = 7
+
+abbrev pub status_text : Status → List ℕ
+status_text Done = codes "done"
+status_text Usage = codes "usage"
+status_text (GraphRefused fault) = codes "graph refused at line " ++ (decimal fault.line ++ (codes ": " ++ kind_word fault.kind))
+status_text ReadFault = codes "read fault"
+status_text WriteFault = codes "write fault"
+status_text NoMemory = codes "out of memory"
+status_text InputLong = codes "input too long"

@@ -58,8 +58,8 @@ survey_of (seed ∷ width ∷ height ∷ queries ∷ []) =
     option_map (λ (given : Grid × ℕ). Survey given.0 given.1) (option_zip (grid_of seed width height) (up_to 10000 queries))
 survey_of (seed ∷ width ∷ height ∷ queries ∷ more ∷ words) = None
 
-abbrev pub behind_word : List ℕ → List (List ℕ) → Option Command
-behind_word word words =
+abbrev pub beyond_word : List ℕ → List (List ℕ) → Option Command
+beyond_word word words =
     if bytes_eq word (codes "check") then for_file Check words
     else (if bytes_eq word (codes "print") then for_file Print words
     else (if bytes_eq word (codes "make") then make_of words
@@ -69,7 +69,7 @@ behind_word word words =
 
 abbrev pub command_of : List (List ℕ) → Option Command
 command_of [] = None
-command_of (word ∷ words) = behind_word word words
+command_of (word ∷ words) = beyond_word word words
 
 abbrev pub name_of : List (List ℕ) → List ℕ
 name_of words = slice_index_or words 1 []

@@ -7,7 +7,7 @@ ghost use Rattle.road_io.specs.Shelf.{with_name};
 ghost use Rattle.dimacs_reader.specs.declared.fault.GraphFault.{GraphFault};
 ghost use Rattle.route_server.specs.Words.{command_of, name_of};
 ghost use Rattle.route_server.specs.Answering.{AnswersFile};
-ghost use Rattle.route_server.specs.Giving.{Gives, GivesOf, IsCheck, IsPrint};
+ghost use Rattle.route_server.specs.Giving.{GivesText, GivesOf, IsCheck, IsPrint};
 ghost use Rattle.route_server.specs.Grids.{IsMade, IsSurveyed};
 ghost use Rattle.route_server.specs.Causes.{HasFault, HasFile, IsAccepted, IsEarly, IsLong, IsReady, IsRefusal, IsUnjudged, IsWhole};
 ghost use Rattle.route_server.specs.declared.words.Command.TheVariants as command;
@@ -52,11 +52,11 @@ pub fn run<R: Threads + Sync, F: Shelf, S: Source, K: Sink>(
         GivesOf IsPrint (told.files (name_of (map (λ w. string_bytes w) words.now))) out now result)) }
     ensures make { (grid : Made) → command_of (map (λ w. string_bytes w) words.now) ≡ Some (command.Make grid) →
         IfTold (K.written output.old) (K.written output.new) (λ out now.
-        Gives (IsMade grid) out now result) }
+        GivesText (IsMade grid) out now result) }
     ensures survey { (grid : Made) (queries : ℕ) →
         command_of (map (λ w. string_bytes w) words.now) ≡ Some (command.Survey grid queries) →
         IfTold (K.written output.old) (K.written output.new) (λ out now.
-        Gives (IsSurveyed grid queries) out now result) }
+        GivesText (IsSurveyed grid queries) out now result) }
     ensures answer { command_of (map (λ w. string_bytes w) words.now) ≡ Some command.Answer →
         IfSome (F.left shelf.old) (λ told.
         IfTold (S.left input.old) (S.left input.new) (λ text rest.

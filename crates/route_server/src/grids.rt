@@ -5,7 +5,7 @@ ghost use Rattle.road_io.specs.Told.{IfTold};
 ghost use Rattle.road_io.specs.Count.{HasRisen};
 ghost use Rattle.dimacs_reader.specs.declared.fault.GraphFault.{GraphFault};
 ghost use Rattle.grid_maker.specs.Grid.{IsSide};
-ghost use Rattle.route_server.specs.Giving.{Gives, IsPrint};
+ghost use Rattle.route_server.specs.Giving.{GivesText, IsPrint};
 ghost use Rattle.route_server.specs.Grids.{IsMade, IsSurveyed};
 ghost use Rattle.route_server.specs.Causes.{IsEarly, IsWhole};
 
@@ -20,7 +20,7 @@ use std::alloc::Global;
 /// Writes a graph in the canonical form.
 fn write<K: Sink>(graph: &GraphFile, output: &mut K) -> Status
     ensures gives { IfTold (K.written output.old) (K.written output.new) (λ out now.
-        Gives (IsPrint graph.now) out now result) }
+        GivesText (IsPrint graph.now) out now result) }
     ensures known { result ≡ Status.Usage → ⊥ }
     ensures inside { result ≡ Status.InputLong → ⊥ }
     ensures accepted { (fault : GraphFault) → result ≡ Status.GraphRefused fault → ⊥ }
@@ -39,7 +39,7 @@ pub fn make<K: Sink>(alloc: Global, grid: Grid, output: &mut K) -> Status
     requires width { IsSide grid.width }
     requires height { IsSide grid.height }
     ensures gives { IfTold (K.written output.old) (K.written output.new) (λ out now.
-        Gives (IsMade grid) out now result) }
+        GivesText (IsMade grid) out now result) }
     ensures known { result ≡ Status.Usage → ⊥ }
     ensures inside { result ≡ Status.InputLong → ⊥ }
     ensures accepted { (fault : GraphFault) → result ≡ Status.GraphRefused fault → ⊥ }
@@ -62,7 +62,7 @@ pub fn survey<K: Sink>(alloc: Global, grid: Grid, queries: u32, output: &mut K) 
     requires height { IsSide grid.height }
     requires few { queries ≤ 10000 }
     ensures gives { IfTold (K.written output.old) (K.written output.new) (λ out now.
-        Gives (IsSurveyed grid queries) out now result) }
+        GivesText (IsSurveyed grid queries) out now result) }
     ensures known { result ≡ Status.Usage → ⊥ }
     ensures inside { result ≡ Status.InputLong → ⊥ }
     ensures accepted { (fault : GraphFault) → result ≡ Status.GraphRefused fault → ⊥ }

@@ -5,7 +5,7 @@ ghost use Rattle.road_io.specs.Told.{IfTold};
 ghost use Rattle.road_io.specs.Count.{HasRisen};
 ghost use Rattle.line_front.specs.Replies.{HasItems};
 ghost use Rattle.route_server.specs.Serving.{Stops};
-ghost use Rattle.route_server.specs.Served.{Serves, Sends};
+ghost use Rattle.route_server.specs.Served.{Serves, SendsReply};
 ghost use Rattle.route_server.specs.Sessions.{state_of};
 ghost use Rattle.route_server.specs.Asking.{is_quit};
 ghost use Rattle.route_server.specs.Causes.{IsLong, IsRefusal, IsWhole};
@@ -43,7 +43,7 @@ fn send<K: Sink>(
 ) -> Served
     requires items { HasItems reply.now (option_copied shown) }
     ensures sends { IfTold (K.written output.old) (K.written output.new)
-        (λ out now. Sends reply.now (option_copied shown.entry) out now result) }
+        (λ out now. SendsReply reply.now (option_copied shown.entry) out now result) }
     ensures count { K.faults output.old ≤ K.faults output.new }
     ensures cause { result ≡ Served.WriteFault → HasRisen (K.faults output.old) (K.faults output.new) }
     ensures quiet { result ≢ Served.WriteFault → K.faults output.new ≡ K.faults output.old }

@@ -9,7 +9,7 @@ ghost use Rattle.desk_core.specs.States.{limits_in, newest};
 ghost use Rattle.desk_core.specs.Replies.{IsStep};
 ghost use Rattle.line_front.specs.Replies.{HasItems};
 ghost use Rattle.route_server.specs.Asking.{is_quit_request};
-ghost use Rattle.route_server.specs.Sessions.{last_plan, opened, refusal_of, state_of, IsChange, IsMade};
+ghost use Rattle.route_server.specs.Sessions.{last_plan, opened, refusal_of, state_of, IsChange, IsChangeMade};
 
 use desk_core::{Asked, Desk, Limits, tested};
 use road_model::{
@@ -93,7 +93,7 @@ impl<V: Version + Drop> Session<V> {
     /// Stages one more change.
     fn stage(&mut self, change: Change) -> Reply
         requires { fault_of self.old.base change ≡ None }
-        ensures made { IsMade self.old.base (state_of self.old) (question.Length change) result (last_plan self.new) (state_of self.new) }
+        ensures made { IsChangeMade self.old.base (state_of self.old) (question.Length change) result (last_plan self.new) (state_of self.new) }
         ensures base { self.new.base ≡ self.old.base }
     {
         match self.staged.push(change) {
@@ -120,7 +120,7 @@ impl<V: Version + Drop> Session<V> {
     /// Makes what is staged a new version.
     fn publish(&mut self, alloc: Global) -> Reply
         requires { newest (state_of self.old) ≢ last_version }
-        ensures made { IsMade self.old.base (state_of self.old) question.Publish result (last_plan self.new) (state_of self.new) }
+        ensures made { IsChangeMade self.old.base (state_of self.old) question.Publish result (last_plan self.new) (state_of self.new) }
         ensures base { self.new.base ≡ self.old.base }
     {
         match self.with_staged(alloc) {

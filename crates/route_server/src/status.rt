@@ -1,6 +1,6 @@
 //! How a run ended.
 
-use dimacs_reader::{GraphFault, GraphKind};
+use dimacs_reader::GraphFault;
 use std::fmt;
 
 /// How a run of the program ended.
@@ -43,13 +43,17 @@ impl Status {
 }
 
 impl fmt::Display for Status {
+    ghost use Rattle.std.specs.Prelude.{Some};
+    ghost use Rattle.route_server.specs.Statuses.{status_text};
+
+    ghost output = { λ status. Some (status_text status) };
+
     fn fmt<W: fmt::Write>(&self, f: &mut fmt::Formatter<W>) -> fmt::Result {
         match self {
             Status::Done => write!(f, "done"),
             Status::Usage => write!(f, "usage"),
             Status::GraphRefused(fault) => {
-                let line = fault.line;
-                let word = fault_word(fault.kind);
+                let (line, word) = (fault.line, fault.kind.word());
                 write!(f, "graph refused at line {line}: {word}")
             }
             Status::ReadFault => write!(f, "read fault"),
@@ -57,24 +61,5 @@ impl fmt::Display for Status {
             Status::NoMemory => write!(f, "out of memory"),
             Status::InputLong => write!(f, "input too long"),
         }
-    }
-}
-
-/// The word for a kind of fault.
-fn fault_word(kind: GraphKind) -> &'static str {
-    match kind {
-        GraphKind::NoProblem => "no-problem",
-        GraphKind::SecondProblem => "second-problem",
-        GraphKind::BadLine => "bad-line",
-        GraphKind::BadNumber => "bad-number",
-        GraphKind::VertexRange => "vertex-range",
-        GraphKind::LengthZero => "length-zero",
-        GraphKind::LengthLarge => "length-large",
-        GraphKind::TooManyArcs => "too-many-arcs",
-        GraphKind::TooFewArcs => "too-few-arcs",
-        GraphKind::LimitVertices => "limit-vertices",
-        GraphKind::LimitArcs => "limit-arcs",
-        GraphKind::LineLong => "line-long",
-        GraphKind::FileLong => "file-long",
     }
 }

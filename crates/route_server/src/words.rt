@@ -3,7 +3,7 @@
 ghost use Rattle.std.specs.Prelude.{◌≡◌, ◌≤◌, IfSome, map, string_bytes};
 ghost use Rattle.grid_maker.specs.Grid.{IsSide};
 ghost use Rattle.road_text.specs.Numbers.{number_of};
-ghost use Rattle.route_server.specs.Words.{behind_word, command_of, for_file, grid_of, has_dash, make_of, name_of, survey_of, up_to, IsSized};
+ghost use Rattle.route_server.specs.Words.{beyond_word, command_of, for_file, grid_of, has_dash, make_of, name_of, survey_of, up_to, IsSized};
 
 use road_text::number;
 
@@ -106,8 +106,8 @@ fn read_survey(words: &[String]) -> Option<Command>
 }
 
 /// The command of a word and the words after it.
-fn behind_word(word: &str, words: &[String]) -> Option<Command>
-    ensures command { result ≡ behind_word word.now (map (λ w. string_bytes w) words.now) }
+fn beyond_word(word: &str, words: &[String]) -> Option<Command>
+    ensures command { result ≡ beyond_word word.now (map (λ w. string_bytes w) words.now) }
     ensures sized { IfSome result IsSized }
 {
     if word == "check" {
@@ -133,10 +133,10 @@ pub fn read_command(words: &[String]) -> Option<Command>
     ensures command { result ≡ command_of (map (λ w. string_bytes w) words.now) }
     ensures sized { IfSome result IsSized }
 {
-    let [word, behind @ ..] = words else {
+    let [word, beyond @ ..] = words else {
         return None;
     };
-    behind_word(word.as_str(), behind)
+    beyond_word(word.as_str(), beyond)
 }
 
 /// The second word.

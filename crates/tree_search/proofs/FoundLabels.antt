@@ -9,7 +9,7 @@ use Rattle.road_model.specs.Dist.{IsDist, NoWalk, DistsBelow}
 use Rattle.road_model.proofs.Walks.{IsWalk-inside}
 use Rattle.label_setting.specs.declared.memory.Goal.{Goal}
 use Rattle.tree_search.specs.Ball.{label_at, label_within, IsLabelled, IsBall, IsLabelledTo, IsBounded}
-use Rattle.label_setting.specs.Search.{far, IsSettled, IsTracked, IsListed, IsAimed}
+use Rattle.label_setting.specs.Search.{far, IsSettled, IsTracked, IsTouchedList, IsAimed}
 use Rattle.tree_search.proofs.Ascending.{HasSame}
 
 -- stored numbers as labels
@@ -102,7 +102,7 @@ found g root target radius limit labels sound inside there h short aim low =
       labelled = IsLabelled-settled g root limit labels sound inside h;
     }
 
-labelled_is_member : (radius : ℕ) (labels touched members : List ℕ) → IsTracked labels touched → IsListed radius labels touched → HasSame members touched → (v : ℕ) (o : Option ℕ) → label_at (map (label_within radius) labels) v ≡ o → IsSome o → Contains members v
+labelled_is_member : (radius : ℕ) (labels touched members : List ℕ) → IsTracked labels touched → IsTouchedList radius labels touched → HasSame members touched → (v : ℕ) (o : Option ℕ) → label_at (map (label_within radius) labels) v ≡ o → IsSome o → Contains members v
 labelled_is_member radius labels touched members tracked listed same v None is some = absurd (let e : false ≡ true = some in cc)
 labelled_is_member radius labels touched members tracked listed same v (Some k) is some =
     let stored = stored_from_label radius labels v k is in
@@ -112,7 +112,7 @@ labelled_is_member radius labels touched members tracked listed same v (Some k) 
     (tracked.covers v stored.inside)
 
 -- the touched vertices of a whole ball are its members
-pub members_of : (radius : ℕ) (labels touched members : List ℕ) → IsTracked labels touched → IsListed radius labels touched → HasSame members touched → (v : ℕ) → Contains members v ↔ IsSome (label_at (map (label_within radius) labels) v)
+pub members_of : (radius : ℕ) (labels touched members : List ℕ) → IsTracked labels touched → IsTouchedList radius labels touched → HasSame members touched → (v : ℕ) → Contains members v ↔ IsSome (label_at (map (label_within radius) labels) v)
 members_of radius labels touched members tracked listed same v = (
   (λ there.
       let was : Contains touched v = (same v).0 there in
@@ -138,10 +138,10 @@ IsLabelled-bounded : (g : Graph) (root : ℕ) (radius : Option ℕ) (labels : Li
 IsLabelled-bounded g root None labels bounded h = IsLabelled-unbounded g root labels bounded h
 IsLabelled-bounded g root (Some r) labels bounded h = h
 
-pub IsBall-settled : (g : Graph) (root : ℕ) (radius : Option ℕ) (reach limit : ℕ) (labels touched members : List ℕ) → IsGraph g → IsVertex g.vertices root → IsBounded g radius → reach ≡ unwrap_or radius 288230376151711743 → limit ≡ reach → IsSettled g root limit labels → IsTracked labels touched → IsListed reach labels touched → HasSame members touched → IsStrictlyIncreasing members → IsBall g root radius (record { labels = map (label_within limit) labels; members = members })
+pub IsBall-settled : (g : Graph) (root : ℕ) (radius : Option ℕ) (reach limit : ℕ) (labels touched members : List ℕ) → IsGraph g → IsVertex g.vertices root → IsBounded g radius → reach ≡ unwrap_or radius 288230376151711743 → limit ≡ reach → IsSettled g root limit labels → IsTracked labels touched → IsTouchedList reach labels touched → HasSame members touched → IsStrictlyIncreasing members → IsBall g root radius (record { labels = map (label_within limit) labels; members = members })
 IsBall-settled g root radius reach limit labels touched members sound inside bounded is whole h tracked listed same ascending =
     let all : limit ≡ unwrap_or radius 288230376151711743 = whole ∙ is in
-    let within : IsListed limit labels touched = subst (λ (r : ℕ). IsListed r labels touched) (sym whole) listed in
+    let within : IsTouchedList limit labels touched = subst (λ (r : ℕ). IsTouchedList r labels touched) (sym whole) listed in
     let labelled : IsLabelled g root (Some limit) (map (label_within limit) labels) = IsLabelled-settled g root limit labels sound inside h in
     record {
       labelled = IsLabelled-bounded g root radius (map (label_within limit) labels) bounded (subst (λ (r : ℕ). IsLabelled g root (Some r) (map (label_within limit) labels)) all labelled);

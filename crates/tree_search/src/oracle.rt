@@ -1,6 +1,7 @@
 ghost use Rattle.std.specs.Prelude.{◌≡◌, ◌^◌, IfOk};
 ghost use Rattle.road_model.specs.Graph.{LengthsBelow};
 ghost use Rattle.road_model.specs.Dist.{DistsBelow};
+ghost use Rattle.label_setting.specs.Search.{IsTracked};
 
 use label_setting::{Goal, SearchMemory};
 use road_model::{Network, NoMemory, Oracle, Vertex};
@@ -35,13 +36,38 @@ impl<'a, N: Network> PlainOracle<'a, N> {
         requires near { DistsBelow (N.graph net.now) (2 ^ 57) }
         ensures { IfOk result (λ o. o ≡ record { graph = N.graph net.now; asked = 0 }) }
     {
-        let mut memory = SearchMemory::new(alloc);
+        let oracle = PlainOracle::in_memory(alloc, SearchMemory::new(alloc), net)?;
+        Ok(oracle)
+    }
+
+    /// The same in the memory of an earlier search or oracle, which counts anew what it settles. Labels are laid out
+    /// anew only where they are those of another number of vertices. An `Err` gives the memory back to the allocator.
+    pub fn in_memory(
+        alloc: Global,
+        memory: SearchMemory,
+        net: &'a N,
+    ) -> Result<PlainOracle<'a, N>, NoMemory>
+        requires tracked { IsTracked memory.labels.items memory.touched.items }
+        requires short { LengthsBelow (N.graph net.now) (2 ^ 57) }
+        requires near { DistsBelow (N.graph net.now) (2 ^ 57) }
+        ensures { IfOk result (λ o. o ≡ record { graph = N.graph net.now; asked = 0 }) }
+    {
+        let mut memory = memory;
         memory.prepare(alloc, net.vertices())?;
+        memory.settled = 0;
         Ok(PlainOracle {
             net,
             memory,
             asked: 0,
         })
+    }
+
+    /// Its memory, for another search or oracle. Takes no memory itself.
+    pub fn into_memory(self) -> SearchMemory
+        ensures { IsTracked result.labels.items result.touched.items }
+    {
+        let PlainOracle { memory, .. } = self;
+        memory
     }
 }
 

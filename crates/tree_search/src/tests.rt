@@ -28,7 +28,7 @@ fn graph_of(alloc: Global, vertices: u32, arcs: &[(u32, u32, u64)]) -> Result<Gr
 }
 
 fn ball_of(alloc: Global, star: &Star, root: u32, radius: Option<u64>) -> Result<Ball, Fail> {
-    let vertices = star.graph().vertices();
+    let vertices = star.vertices();
     if root == 0 || root > vertices {
         return Err("no such root".into());
     }
@@ -48,7 +48,7 @@ fn distance_to(
     requires { IsTracked memory.old.labels.items memory.old.touched.items }
     ensures { IsTracked memory.new.labels.items memory.new.touched.items }
 {
-    let vertices = star.graph().vertices();
+    let vertices = star.vertices();
     if root == 0 || root > vertices || target == 0 || target > vertices {
         return Err("no such vertex".into());
     }
@@ -62,7 +62,7 @@ fn distances_of(
     star: &Star,
     pairs: &[(u32, u32)],
 ) -> Result<Vec<Option<u64>>, Fail> {
-    let vertices = star.graph().vertices();
+    let vertices = star.vertices();
     let mut oracle = PlainOracle::new(alloc, star)?;
     let mut distances = Vec::new(alloc);
     for pair in pairs {

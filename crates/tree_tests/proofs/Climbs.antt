@@ -104,8 +104,8 @@ weight_fits ts side o v add left x up is h =
     let weight : add ≡ weight_on ts.graph o x.arc = is ∙ weight_is ts side o v x up in
     omega (arith, h.is up.whole up.whole_path, up.carries o up.whole up.whole_path)
 
-pub sum_behind : (ts : Trees) (side : Side) (o : List ℕ) (v add left : ℕ) (x : Step) → IsUpStep ts side v x → add ≡ step_weight o x → IsSumAt ts side o v left → IsSumAt ts side o x.head (left - add)
-sum_behind ts side o v add left x up is h =
+pub sum_beyond : (ts : Trees) (side : Side) (o : List ℕ) (v add left : ℕ) (x : Step) → IsUpStep ts side v x → add ≡ step_weight o x → IsSumAt ts side o v left → IsSumAt ts side o x.head (left - add)
+sum_beyond ts side o v add left x up is h =
     let weight : add ≡ weight_on ts.graph o x.arc = is ∙ weight_is ts side o v x up in
     let rest : left - add ≡ carried ts.graph o up.rest = omega (arith, h.is up.whole up.whole_path, up.carries o up.whole up.whole_path) in
     record {

@@ -19,7 +19,7 @@ carried_same g o asc (a ∷ p) moved =
 
 pub through_sum : (ts : Trees) (o asc one two : List ℕ) (v a b : ℕ) → IsPermutation o asc → one ≡ asc → two ≡ asc → IsSumAt ts Source one v a → IsSumAt ts Target two v b → (p : List ℕ) → IsVia ts.graph ts.source ts.target v p → a + b ≡ carried ts.graph o p
 through_sum ts o asc one two v a b moved is_one is_two from to p via =
-    let front : a ≡ carried ts.graph asc via.front = (subst (λ (l : List ℕ). IsSumAt ts Source l v a) is_one from).is via.front via.first in
+    let prefix : a ≡ carried ts.graph asc via.prefix = (subst (λ (l : List ℕ). IsSumAt ts Source l v a) is_one from).is via.prefix via.first in
     let back : b ≡ carried ts.graph asc via.back = (subst (λ (l : List ℕ). IsSumAt ts Target l v b) is_two to).is via.back via.last in
-    let whole : carried ts.graph asc p ≡ carried ts.graph asc (via.front ++ via.back) = ap (λ (l : List ℕ). carried ts.graph asc l) via.joined in
-    omega (arith, sum_by-append (λ x. weight_on ts.graph asc x) via.front via.back, carried_same ts.graph o asc p moved)
+    let whole : carried ts.graph asc p ≡ carried ts.graph asc (via.prefix ++ via.back) = ap (λ (l : List ℕ). carried ts.graph asc l) via.joined in
+    omega (arith, sum_by-append (λ x. weight_on ts.graph asc x) via.prefix via.back, carried_same ts.graph o asc p moved)

@@ -19,12 +19,12 @@ use Rattle.tree_tests.proofs.UpSteps.{TreePath-unique}
 pub on_from : (ts : Trees) (v : ℕ) (o : Option Step) (x : Step) → IsFromStep ts.graph ts.radius ts.source v o → o ≡ Some x → IsOn ts Source x.head v
 on_from ts v o x h is =
     let step : IsLastStep ts.graph ts.radius ts.source v x = subst (λ (s : Option Step). IsFromStep ts.graph ts.radius ts.source v s) is h in
-    record { own = step.front; part = x.arc ∷ []; whole = step.front ++ x.arc ∷ []; near = step.behind; far = step.path; joined = refl }
+    record { own = step.prefix; part = x.arc ∷ []; whole = step.prefix ++ x.arc ∷ []; near = step.beyond; far = step.path; joined = refl }
 
 pub on_to : (ts : Trees) (v : ℕ) (o : Option Step) (x : Step) → IsToStep ts.graph ts.radius v ts.target o → o ≡ Some x → IsOn ts Target x.head v
 on_to ts v o x h is =
     let step : IsFirstStep ts.graph ts.radius v ts.target x = subst (λ (s : Option Step). IsToStep ts.graph ts.radius v ts.target s) is h in
-    record { own = step.back; part = x.arc ∷ []; whole = x.arc ∷ step.back; near = step.behind; far = step.path; joined = refl }
+    record { own = step.back; part = x.arc ∷ []; whole = x.arc ∷ step.back; near = step.beyond; far = step.path; joined = refl }
 
 pub on_side : (ts : Trees) (side which : Side) (y v : ℕ) → side ≡ which → IsOn ts which y v → IsOn ts side y v
 on_side ts side which y v e h = subst (λ (s : Side). IsOn ts s y v) (sym e) h
@@ -94,5 +94,5 @@ none_known ts side es none v a is = absurd (let e : None ≡ Some a = sym (none 
 
 -- a vertex through which a path leads lies on its own ways
 pub on_of_via : (ts : Trees) (side : Side) (w : ℕ) (p : List ℕ) → IsVia ts.graph ts.source ts.target w p → IsOn ts side w w
-on_of_via ts Source w p h = on_itself ts Source w h.front h.first
+on_of_via ts Source w p h = on_itself ts Source w h.prefix h.first
 on_of_via ts Target w p h = on_itself ts Target w h.back h.last

@@ -25,24 +25,24 @@ Distinct (a ∷ p) = (list_any (λ b. b == a) p ≡ false) × Distinct p
 
 pub record HasRepeat (p : List ℕ) : Type 0 where
   pub arc : ℕ
-  pub front : List ℕ
+  pub prefix : List ℕ
   pub middle : List ℕ
   pub back : List ℕ
-  pub is : p ≡ front ++ (arc ∷ (middle ++ (arc ∷ back)))
+  pub is : p ≡ prefix ++ (arc ∷ (middle ++ (arc ∷ back)))
 
 record HasArc (a : ℕ) (p : List ℕ) : Type 0 where
-  front : List ℕ
+  prefix : List ℕ
   back : List ℕ
-  is : p ≡ front ++ (a ∷ back)
+  is : p ≡ prefix ++ (a ∷ back)
 
 has_or_not : (a : ℕ) (p : List ℕ) → HasArc a p ⊎ (list_any (λ b. b == a) p ≡ false)
 has_or_not a [] = inr refl
 has_or_not a (b ∷ p) =
     ⊎_elim
-    (λ (same : b ≡ a). inl (record { front = []; back = p; is = ap (λ (x : ℕ). x ∷ p) same }))
+    (λ (same : b ≡ a). inl (record { prefix = []; back = p; is = ap (λ (x : ℕ). x ∷ p) same }))
     (λ (other : b ≡ a → ⊥).
     ⊎_elim
-    (λ (later : HasArc a p). inl (record { front = b ∷ later.front; back = later.back; is = ap (λ (l : List ℕ). b ∷ l) later.is }))
+    (λ (later : HasArc a p). inl (record { prefix = b ∷ later.prefix; back = later.back; is = ap (λ (l : List ℕ). b ∷ l) later.is }))
     (λ (none : list_any (λ x. x == a) p ≡ false). inr (ap (λ (x : Bool). x || list_any (λ y. y == a) p) (ne_eqb b a other) ∙ none))
     (has_or_not a p))
     (cases_eq b a)
@@ -51,11 +51,11 @@ pub distinct_or_not : (p : List ℕ) → Distinct p ⊎ HasRepeat p
 distinct_or_not [] = inl tt
 distinct_or_not (a ∷ p) =
     ⊎_elim
-    (λ (here : HasArc a p). inr (record { arc = a; front = []; middle = here.front; back = here.back; is = ap (λ (l : List ℕ). a ∷ l) here.is }))
+    (λ (here : HasArc a p). inr (record { arc = a; prefix = []; middle = here.prefix; back = here.back; is = ap (λ (l : List ℕ). a ∷ l) here.is }))
     (λ (none : list_any (λ b. b == a) p ≡ false).
     ⊎_elim
     (λ (rest : Distinct p). inl (none, rest))
-    (λ (later : HasRepeat p). inr (record { arc = later.arc; front = a ∷ later.front; middle = later.middle; back = later.back; is = ap (λ (l : List ℕ). a ∷ l) later.is }))
+    (λ (later : HasRepeat p). inr (record { arc = later.arc; prefix = a ∷ later.prefix; middle = later.middle; back = later.back; is = ap (λ (l : List ℕ). a ∷ l) later.is }))
     (distinct_or_not p))
     (has_or_not a p)
 
@@ -64,18 +64,18 @@ record Closed (g : Graph) (u : ℕ) (h a b k : List ℕ) (v : ℕ) : Type 0 wher
   vertex : ℕ
   before : IsWalk g u h vertex
   piece : IsWalk g vertex a vertex
-  behind : IsWalk g vertex b v
+  beyond : IsWalk g vertex b v
 
-closed : (g : Graph) (u v : ℕ) (p : List ℕ) (h : HasRepeat p) → IsWalk g u p v → Closed g u h.front (h.arc ∷ h.middle) (h.arc ∷ h.back) h.back v
+closed : (g : Graph) (u v : ℕ) (p : List ℕ) (h : HasRepeat p) → IsWalk g u p v → Closed g u h.prefix (h.arc ∷ h.middle) (h.arc ∷ h.back) h.back v
 closed g u v p h walk =
-    let one : Cut g u h.front (h.arc ∷ (h.middle ++ (h.arc ∷ h.back))) v = cut g h.front (h.arc ∷ (h.middle ++ (h.arc ∷ h.back))) u v (subst (λ (l : List ℕ). IsWalk g u l v) h.is walk) in
+    let one : Cut g u h.prefix (h.arc ∷ (h.middle ++ (h.arc ∷ h.back))) v = cut g h.prefix (h.arc ∷ (h.middle ++ (h.arc ∷ h.back))) u v (subst (λ (l : List ℕ). IsWalk g u l v) h.is walk) in
     let two : Cut g one.middle (h.arc ∷ h.middle) (h.arc ∷ h.back) v = cut g (h.arc ∷ h.middle) (h.arc ∷ h.back) one.middle v one.back in
-    let same : two.middle ≡ one.middle = IsWalk-start g h.arc h.back h.middle two.middle v one.middle two.middle two.back two.front in
+    let same : two.middle ≡ one.middle = IsWalk-start g h.arc h.back h.middle two.middle v one.middle two.middle two.back two.prefix in
     record {
       vertex = one.middle;
-      before = one.front;
-      piece = subst (λ (x : ℕ). IsWalk g one.middle (h.arc ∷ h.middle) x) same two.front;
-      behind = subst (λ (x : ℕ). IsWalk g x (h.arc ∷ h.back) v) same two.back;
+      before = one.prefix;
+      piece = subst (λ (x : ℕ). IsWalk g one.middle (h.arc ∷ h.middle) x) same two.prefix;
+      beyond = subst (λ (x : ℕ). IsWalk g x (h.arc ∷ h.back) v) same two.back;
     }
 
 pub shortest_is_distinct : (g : Graph) (u v : ℕ) (p : List ℕ) → IsGraph g → IsShortest g u p v → Distinct p
@@ -85,11 +85,11 @@ shortest_is_distinct g u v p sound short =
     (λ (h : HasRepeat p).
     let c = closed g u v p h short.walk in
     let some : 1 ≤ walk_length g (h.arc ∷ h.middle) = walk_length-positive g h.arc h.middle c.vertex c.vertex sound c.piece in
-    let whole : walk_length g p ≡ walk_length g (h.front ++ ((h.arc ∷ h.middle) ++ (h.arc ∷ h.back))) = ap (λ (l : List ℕ). walk_length g l) h.is in
-    let other : walk_length g p ≤ walk_length g (h.front ++ (h.arc ∷ h.back)) = short.least (h.front ++ (h.arc ∷ h.back)) (IsWalk-append g h.front (h.arc ∷ h.back) u c.vertex v c.before c.behind) in
-    let parts = walk_length-append g h.front ((h.arc ∷ h.middle) ++ (h.arc ∷ h.back)) in
+    let whole : walk_length g p ≡ walk_length g (h.prefix ++ ((h.arc ∷ h.middle) ++ (h.arc ∷ h.back))) = ap (λ (l : List ℕ). walk_length g l) h.is in
+    let other : walk_length g p ≤ walk_length g (h.prefix ++ (h.arc ∷ h.back)) = short.least (h.prefix ++ (h.arc ∷ h.back)) (IsWalk-append g h.prefix (h.arc ∷ h.back) u c.vertex v c.before c.beyond) in
+    let parts = walk_length-append g h.prefix ((h.arc ∷ h.middle) ++ (h.arc ∷ h.back)) in
     let pieces = walk_length-append g (h.arc ∷ h.middle) (h.arc ∷ h.back) in
-    let less = walk_length-append g h.front (h.arc ∷ h.back) in
+    let less = walk_length-append g h.prefix (h.arc ∷ h.back) in
     absurd (omega (arith, some, whole, other, parts, pieces, less)))
     (distinct_or_not p)
 
@@ -104,27 +104,27 @@ bounded_is_distinct g eps u v p sound den walk bounded =
     (λ (yes : Distinct p). yes)
     (λ (h : HasRepeat p).
     let c = closed g u v p h walk in
-    let a = h.front in
+    let a = h.prefix in
     let b = h.arc ∷ h.middle in
     let k = h.arc ∷ h.back in
-    let is : p ≡ h.front ++ ((h.arc ∷ h.middle) ++ (h.arc ∷ h.back)) = h.is in
+    let is : p ≡ h.prefix ++ ((h.arc ∷ h.middle) ++ (h.arc ∷ h.back)) = h.is in
     let some : 1 ≤ walk_length g (h.arc ∷ h.middle) = walk_length-positive g h.arc h.middle c.vertex c.vertex sound c.piece in
-    let i = length h.front in
-    let j = length h.front + length (h.arc ∷ h.middle) in
-    let long : between (trail_of g u p) (length h.front) (length h.front + length (h.arc ∷ h.middle)) ≡ walk_length g (h.arc ∷ h.middle) =
-    subst (λ (l : List ℕ). between (trail_of g u l) (length h.front) (length h.front + length (h.arc ∷ h.middle)) ≡ walk_length g (h.arc ∷ h.middle)) (sym is) (between_pieces g u h.front (h.arc ∷ h.middle) (h.arc ∷ h.back)) in
-    let first : vertex_at (trail_of g u p) (length h.front) ≡ c.vertex =
-    subst (λ (l : List ℕ). vertex_at (trail_of g u l) (length h.front) ≡ c.vertex) (sym is) (place_after g h.front ((h.arc ∷ h.middle) ++ (h.arc ∷ h.back)) u c.vertex c.before) in
-    let last : vertex_at (trail_of g u p) (length h.front + length (h.arc ∷ h.middle)) ≡ c.vertex =
-    subst (λ (l : List ℕ). vertex_at (trail_of g u l) (length h.front + length (h.arc ∷ h.middle)) ≡ c.vertex) (sym is) (place_pieces g u c.vertex c.vertex h.front (h.arc ∷ h.middle) (h.arc ∷ h.back) c.before c.piece) in
-    let dist : IsDistAt g (trail_of g u p) (length h.front) (length h.front + length (h.arc ∷ h.middle)) 0 =
-    subst (λ (x : ℕ). IsDist g x (vertex_at (trail_of g u p) (length h.front + length (h.arc ∷ h.middle))) (Some 0)) (sym first)
+    let i = length h.prefix in
+    let j = length h.prefix + length (h.arc ∷ h.middle) in
+    let long : between (trail_of g u p) (length h.prefix) (length h.prefix + length (h.arc ∷ h.middle)) ≡ walk_length g (h.arc ∷ h.middle) =
+    subst (λ (l : List ℕ). between (trail_of g u l) (length h.prefix) (length h.prefix + length (h.arc ∷ h.middle)) ≡ walk_length g (h.arc ∷ h.middle)) (sym is) (between_pieces g u h.prefix (h.arc ∷ h.middle) (h.arc ∷ h.back)) in
+    let first : vertex_at (trail_of g u p) (length h.prefix) ≡ c.vertex =
+    subst (λ (l : List ℕ). vertex_at (trail_of g u l) (length h.prefix) ≡ c.vertex) (sym is) (place_after g h.prefix ((h.arc ∷ h.middle) ++ (h.arc ∷ h.back)) u c.vertex c.before) in
+    let last : vertex_at (trail_of g u p) (length h.prefix + length (h.arc ∷ h.middle)) ≡ c.vertex =
+    subst (λ (l : List ℕ). vertex_at (trail_of g u l) (length h.prefix + length (h.arc ∷ h.middle)) ≡ c.vertex) (sym is) (place_pieces g u c.vertex c.vertex h.prefix (h.arc ∷ h.middle) (h.arc ∷ h.back) c.before c.piece) in
+    let dist : IsDistAt g (trail_of g u p) (length h.prefix) (length h.prefix + length (h.arc ∷ h.middle)) 0 =
+    subst (λ (x : ℕ). IsDist g x (vertex_at (trail_of g u p) (length h.prefix + length (h.arc ∷ h.middle))) (Some 0)) (sym first)
     (subst (λ (x : ℕ). IsDist g c.vertex x (Some 0)) (sym last) (IsDist-itself g c.vertex)) in
-    let size : length p ≡ length (h.front ++ ((h.arc ∷ h.middle) ++ (h.arc ∷ h.back))) = ap (λ (l : List ℕ). length l) is in
-    let above : (eps.den + eps.num) * 0 < between (trail_of g u p) (length h.front) (length h.front + length (h.arc ∷ h.middle)) * eps.den = product_above eps.den eps.num (between (trail_of g u p) (length h.front) (length h.front + length (h.arc ∷ h.middle))) den (omega arith) in
-    absurd (bounded (length h.front) (length h.front + length (h.arc ∷ h.middle)) 0 (record {
+    let size : length p ≡ length (h.prefix ++ ((h.arc ∷ h.middle) ++ (h.arc ∷ h.back))) = ap (λ (l : List ℕ). length l) is in
+    let above : (eps.den + eps.num) * 0 < between (trail_of g u p) (length h.prefix) (length h.prefix + length (h.arc ∷ h.middle)) * eps.den = product_above eps.den eps.num (between (trail_of g u p) (length h.prefix) (length h.prefix + length (h.arc ∷ h.middle))) den (omega arith) in
+    absurd (bounded (length h.prefix) (length h.prefix + length (h.arc ∷ h.middle)) 0 (record {
       rise = omega arith;
-      inside = omega (arith, size, length-append h.front ((h.arc ∷ h.middle) ++ (h.arc ∷ h.back)), length-append (h.arc ∷ h.middle) (h.arc ∷ h.back), length-places g u p);
+      inside = omega (arith, size, length-append h.prefix ((h.arc ∷ h.middle) ++ (h.arc ∷ h.back)), length-append (h.arc ∷ h.middle) (h.arc ∷ h.back), length-places g u p);
       dist = dist;
       above = above;
     })))

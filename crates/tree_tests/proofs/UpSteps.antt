@@ -54,33 +54,33 @@ up_last : (ts : Trees) (v : ℕ) (x : Step) → IsGraph ts.graph → IsLastStep 
 up_last ts v x sound h =
     let long : length_at ts.graph x.arc ≡ x.length = ap row_length h.arc in
     record {
-      inside = inside_before ts.graph ts.radius ts.source x.head v h.front (x.arc ∷ []) h.path h.behind h.inside;
+      inside = inside_before ts.graph ts.radius ts.source x.head v h.prefix (x.arc ∷ []) h.path h.beyond h.inside;
       length = long;
       some = (IsArc-at ts.graph x.arc (record { tail = x.head; head = v; length = x.length }) sound h.arc).positive;
-      whole = h.front ++ x.arc ∷ [];
+      whole = h.prefix ++ x.arc ∷ [];
       whole_path = h.path;
-      rest = h.front;
-      path = h.behind;
+      rest = h.prefix;
+      path = h.beyond;
       carries = (λ o p path.
-          let is : p ≡ h.front ++ x.arc ∷ [] = IsFirst-unique ts.graph ts.source v p (h.front ++ x.arc ∷ []) path h.path in
-          ap (λ (l : List ℕ). carried ts.graph o l) is ∙ sum_by_push (λ a. weight_on ts.graph o a) h.front x.arc);
+          let is : p ≡ h.prefix ++ x.arc ∷ [] = IsFirst-unique ts.graph ts.source v p (h.prefix ++ x.arc ∷ []) path h.path in
+          ap (λ (l : List ℕ). carried ts.graph o l) is ∙ sum_by_push (λ a. weight_on ts.graph o a) h.prefix x.arc);
       nearer = (λ a b da db.
-          let one : walk_length ts.graph (h.front ++ x.arc ∷ []) ≡ a = IsDist-same ts.graph ts.source v (walk_length ts.graph (h.front ++ x.arc ∷ [])) a (dist_of_shortest ts.graph ts.source v (h.front ++ x.arc ∷ []) h.path.shortest) da in
-          let two : walk_length ts.graph h.front ≡ b = IsDist-same ts.graph ts.source x.head (walk_length ts.graph h.front) b (dist_of_shortest ts.graph ts.source x.head h.front h.behind.shortest) db in
-          omega (arith, walk_length-append ts.graph h.front (x.arc ∷ []), long));
+          let one : walk_length ts.graph (h.prefix ++ x.arc ∷ []) ≡ a = IsDist-same ts.graph ts.source v (walk_length ts.graph (h.prefix ++ x.arc ∷ [])) a (dist_of_shortest ts.graph ts.source v (h.prefix ++ x.arc ∷ []) h.path.shortest) da in
+          let two : walk_length ts.graph h.prefix ≡ b = IsDist-same ts.graph ts.source x.head (walk_length ts.graph h.prefix) b (dist_of_shortest ts.graph ts.source x.head h.prefix h.beyond.shortest) db in
+          omega (arith, walk_length-append ts.graph h.prefix (x.arc ∷ []), long));
     }
 
 up_first : (ts : Trees) (v : ℕ) (x : Step) → IsGraph ts.graph → IsFirstStep ts.graph ts.radius v ts.target x → IsUpStep ts Target v x
 up_first ts v x sound h =
     let long : length_at ts.graph x.arc ≡ x.length = ap row_length h.arc in
     record {
-      inside = inside_after ts.graph ts.radius v x.head ts.target (x.arc ∷ []) h.back h.path h.behind h.inside;
+      inside = inside_after ts.graph ts.radius v x.head ts.target (x.arc ∷ []) h.back h.path h.beyond h.inside;
       length = long;
       some = (IsArc-at ts.graph x.arc (record { tail = v; head = x.head; length = x.length }) sound h.arc).positive;
       whole = x.arc ∷ h.back;
       whole_path = h.path;
       rest = h.back;
-      path = h.behind;
+      path = h.beyond;
       carries = (λ o p path.
           let is : p ≡ x.arc ∷ h.back = IsLast-unique ts.graph v ts.target p (x.arc ∷ h.back) path h.path in
           let sum = sum_by-cons (λ a. weight_on ts.graph o a) x.arc h.back in
@@ -88,7 +88,7 @@ up_first ts v x sound h =
           omega (arith, sum));
       nearer = (λ a b da db.
           let one : walk_length ts.graph (x.arc ∷ h.back) ≡ a = IsDist-same ts.graph v ts.target (walk_length ts.graph (x.arc ∷ h.back)) a (dist_of_shortest ts.graph v ts.target (x.arc ∷ h.back) h.path.shortest) da in
-          let two : walk_length ts.graph h.back ≡ b = IsDist-same ts.graph x.head ts.target (walk_length ts.graph h.back) b (dist_of_shortest ts.graph x.head ts.target h.back h.behind.shortest) db in
+          let two : walk_length ts.graph h.back ≡ b = IsDist-same ts.graph x.head ts.target (walk_length ts.graph h.back) b (dist_of_shortest ts.graph x.head ts.target h.back h.beyond.shortest) db in
           omega (arith, one, two, long));
     }
 

@@ -8,9 +8,9 @@ ghost use Rattle.tree_tests.specs.declared.sides.Side.{Side as Which};
 ghost use Rattle.tree_tests.specs.Ancestors.{IsParent, IsEntry, AreAncestors, AreHigher, IsAhead, IsLifted, IsMet, IsOn};
 
 use crate::sides::Side;
-use stamped_table::{Stamped, Table};
 use canonical_trees::TreePair;
 use road_model::{NoMemory, Vertex};
+use stamped_table::{Stamped, Table};
 use std::mem::size_of;
 
 /// The most steps of one climb: a jump halves what is left of the way, or nearly.

@@ -8,9 +8,9 @@ ghost use Rattle.tree_tests.specs.Never.{IsNever};
 
 use crate::ancestors::{Ancestor, NO_ANCESTOR, ahead, fill, met};
 use crate::sides::{Side, label, opposite};
-use stamped_table::Table;
 use canonical_trees::TreePair;
 use road_model::{NoMemory, Query, Vertex};
+use stamped_table::Table;
 use std::alloc::Global;
 use std::marker::Model;
 
@@ -32,7 +32,7 @@ fn is_detour(
     ensures { IsTrue result → IsOn pair.now side y w → IsOn pair.now side y x → IsOn pair.now (opposite side) x w →
         IsNever pair.now query.now opt_len w }
 {
-    let _limits = pair.star().graph();
+    pair.star().within_limits();
     let other = opposite(side);
     let Some(start) = label(pair, side, y) else {
         return false;
@@ -118,7 +118,7 @@ fn tried(
     ensures ways { AreAncestors pair.now side own.new }
     ensures never { IfOk result (λ r. IsTrue r → IsOn pair.now (opposite side) x w → IsNever pair.now query.now opt_len w) }
 {
-    let _limits = pair.star().graph();
+    pair.star().within_limits();
     let Some(_near) = label(pair, side, w) else {
         return Ok(false);
     };
@@ -171,7 +171,7 @@ impl<'a> Refusals<'a> {
     pub fn new(pair: &'a TreePair<'a>, mut tables: WayTables) -> Result<Refusals<'a>, NoMemory>
         ensures { IfOk result (λ r. r ≡ pair.now) }
     {
-        let places = pair.star().graph().vertices() as usize + 1;
+        let places = pair.star().vertices() as usize + 1;
         tables.from.empty(places)?;
         tables.to.empty(places)?;
         Ok(Refusals { pair, tables })

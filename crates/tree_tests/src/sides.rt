@@ -19,7 +19,7 @@ pub(crate) fn step_up(pair: &TreePair<'_>, side: Side, v: Vertex) -> Option<Step
     requires { IsInTree pair.now side v }
     ensures { IsUp pair.now side v result }
 {
-    let _limits = pair.star().graph();
+    pair.star().within_limits();
     match side {
         Side::Source => pair.from_step(v),
         Side::Target => pair.to_step(v),

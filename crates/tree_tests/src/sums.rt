@@ -8,9 +8,9 @@ ghost use Rattle.tree_tests.specs.declared.sides.Side.TheVariants.{Source, Targe
 ghost use Rattle.road_model.specs.Alternatives.{IsVia};
 
 use crate::sides::{Side, distance, step_up};
-use stamped_table::{Stamped, Table};
 use canonical_trees::TreePair;
 use road_model::{ArcList, ArcNo, NoMemory, Step, Vertex};
+use stamped_table::{Stamped, Table};
 use std::alloc::Global;
 use std::marker::Model;
 use std::mem::size_of;
@@ -174,7 +174,7 @@ impl<'a> SharedSums<'a> {
     ) -> Result<SharedSums<'a>, NoMemory>
         ensures { IfOk result (λ s. s ≡ record { trees = pair.now; optimum = optimum.now }) }
     {
-        let places = pair.star().graph().vertices() as usize + 1;
+        let places = pair.star().vertices() as usize + 1;
         tables.from.empty(places)?;
         tables.to.empty(places)?;
         let ascending = ascending(alloc, optimum.as_slice())?;

@@ -110,11 +110,11 @@ asks_nothing g q old new same = record { paths = (λ p most best greatest f each
 pub asked_nothing_yet : (g : Graph) (s t : ℕ) (p : List ℕ) (v old new : ℕ) → new ≡ old → AsksOnce g s t p v old new
 asked_nothing_yet g s t p v old new same h = omega arith
 
-places_of : (g : Graph) (s : ℕ) (p front back : List ℕ) (t : Trail) → t ≡ trail_of g s p → p ≡ front ++ back → length t.vertices ≡ length front + length back + 1
-places_of g s p front back t is joined =
+places_of : (g : Graph) (s : ℕ) (p prefix back : List ℕ) (t : Trail) → t ≡ trail_of g s p → p ≡ prefix ++ back → length t.vertices ≡ length prefix + length back + 1
+places_of g s p prefix back t is joined =
     let one : length t.vertices ≡ length (places g s p) = ap (λ (x : Trail). length x.vertices) is in
-    let two : length p ≡ length (front ++ back) = ap (λ (l : List ℕ). length l) joined in
-    omega (arith, length-places g s p, length-append front back)
+    let two : length p ≡ length (prefix ++ back) = ap (λ (l : List ℕ). length l) joined in
+    omega (arith, length-places g s p, length-append prefix back)
 
 -- fast fact on products, over plain numbers
 one_cost : (a b old middle new via places : ℕ) → via ≡ a → places ≡ a + b + 1 → middle ≤ old + (via + places) → new ≤ middle + via * (places - 1 - via) → new ≤ old + cost a b
@@ -123,10 +123,10 @@ one_cost a b old middle new via places is_via is_places first second =
     let product : via * (places - 1 - via) ≡ a * b = ap (λ (n : ℕ). n * (places - 1 - via)) is_via ∙ ap (λ (n : ℕ). a * n) rest in
     omega arith
 
-pub asked_local : (g : Graph) (s t : ℕ) (p : List ℕ) (v via old new : ℕ) (trail : Trail) → trail ≡ trail_of g s p → ((h : IsVia g s t v p) → via ≡ length h.front) → AsksWithin old new (via + length trail.vertices) → AsksOnce g s t p v old new
+pub asked_local : (g : Graph) (s t : ℕ) (p : List ℕ) (v via old new : ℕ) (trail : Trail) → trail ≡ trail_of g s p → ((h : IsVia g s t v p) → via ≡ length h.prefix) → AsksWithin old new (via + length trail.vertices) → AsksOnce g s t p v old new
 asked_local g s t p v via old new trail is place asks h =
-    omega (arith, places_of g s p h.front h.back trail is h.joined, place h, asks.few)
+    omega (arith, places_of g s p h.prefix h.back trail is h.joined, place h, asks.few)
 
-pub asked_both : (g : Graph) (s t : ℕ) (p : List ℕ) (v via old middle new : ℕ) (trail : Trail) → trail ≡ trail_of g s p → ((h : IsVia g s t v p) → via ≡ length h.front) → AsksWithin old middle (via + length trail.vertices) → AsksWithin middle new (via * (length trail.vertices - 1 - via)) → AsksOnce g s t p v old new
+pub asked_both : (g : Graph) (s t : ℕ) (p : List ℕ) (v via old middle new : ℕ) (trail : Trail) → trail ≡ trail_of g s p → ((h : IsVia g s t v p) → via ≡ length h.prefix) → AsksWithin old middle (via + length trail.vertices) → AsksWithin middle new (via * (length trail.vertices - 1 - via)) → AsksOnce g s t p v old new
 asked_both g s t p v via old middle new trail is place first second h =
-    one_cost (length h.front) (length h.back) old middle new via (length trail.vertices) (place h) (places_of g s p h.front h.back trail is h.joined) first.few second.few
+    one_cost (length h.prefix) (length h.back) old middle new via (length trail.vertices) (place h) (places_of g s p h.prefix h.back trail is h.joined) first.few second.few

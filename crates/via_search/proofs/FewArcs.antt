@@ -11,7 +11,7 @@ use Rattle.road_model.specs.Dist.{IsDist, IsShortest}
 use Rattle.road_model.specs.Places.{places, sums, trail_of, vertex_at, between, IsDistAt}
 use Rattle.road_model.proofs.Walks.{IsArc-at}
 use Rattle.road_model.proofs.Dists.{IsDist-same, IsDist-itself}
-use Rattle.road_model.proofs.Parts.{length-places, dist_in_front}
+use Rattle.road_model.proofs.Parts.{length-places, dist_in_prefix}
 
 sums_low : (g : Graph) (k : ℕ) (p : List ℕ) (j : ℕ) → j ≤ length p → k ≤ get_or (sums g k p) j 0
 sums_low g k [] zero le = omega arith
@@ -60,7 +60,7 @@ places_inside g (a ∷ p) u v q sound inside walk any =
 places_apart : (g : Graph) (p : List ℕ) (u v i j : ℕ) → IsGraph g → IsShortest g u p v → i < j → j ≤ length p → vertex_at (trail_of g u p) i ≡ vertex_at (trail_of g u p) j → ⊥
 places_apart g p u v i j sound h lt le same =
     let rise : get_or (sums g 0 p) i 0 < get_or (sums g 0 p) j 0 = sums_strict g 0 p u v i j sound h.walk lt le in
-    let dist : IsDistAt g (trail_of g u p) i j (between (trail_of g u p) i j) = subst (λ (l : List ℕ). IsDistAt g (trail_of g u l) i j (between (trail_of g u l) i j)) (append-nil p) (dist_in_front g u v p [] i j h (omega arith) le) in
+    let dist : IsDistAt g (trail_of g u p) i j (between (trail_of g u p) i j) = subst (λ (l : List ℕ). IsDistAt g (trail_of g u l) i j (between (trail_of g u l) i j)) (append-nil p) (dist_in_prefix g u v p [] i j h (omega arith) le) in
     let closed : IsDist g (vertex_at (trail_of g u p) j) (vertex_at (trail_of g u p) j) (Some (between (trail_of g u p) i j)) = subst (λ (x : ℕ). IsDist g x (vertex_at (trail_of g u p) j) (Some (between (trail_of g u p) i j))) same dist in
     let none : between (trail_of g u p) i j ≡ 0 = IsDist-same g (vertex_at (trail_of g u p) j) (vertex_at (trail_of g u p) j) (between (trail_of g u p) i j) 0 closed (IsDist-itself g (vertex_at (trail_of g u p) j)) in
     omega arith

@@ -175,7 +175,7 @@ listing_of g q o n cs k rs ys posed bound all le h moved order =
           let short : walk_length g p ≤ n = bound.greatest (walk_length g p) (subst (λ (m : ℕ). Stretches q.epsilon (walk_length g p) m) (sym posed.best.1) near) in
           let parts = via_parts g q.from q.to alternative.via p alternative.through in
           let inside : IsInBoth (pair_of g q n) alternative.via = record {
-            from = record { distance = walk_length g via.front; dist = dist_of_shortest g q.from alternative.via via.front via.first.shortest; within = omega arith };
+            from = record { distance = walk_length g via.prefix; dist = dist_of_shortest g q.from alternative.via via.prefix via.first.shortest; within = omega arith };
             to = record { distance = walk_length g via.back; dist = dist_of_shortest g alternative.via q.to via.back via.last.shortest; within = omega arith };
           } in
           let x : HasPlateau (pair_of g q n) p cs = all.every alternative.via p alternative.through inside short in

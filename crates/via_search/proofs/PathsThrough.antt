@@ -29,20 +29,20 @@ pub path_through : (g : Graph) (s t v a b : ℕ) (d e : Option ℕ) → IsWithin
 path_through g s t v a b d e limits inside near_dist is_near left_dist is_left =
     let near : IsDist g s v (Some a) = subst (λ (x : Option ℕ). IsDist g s v x) is_near near_dist in
     let left : IsDist g v t (Some b) = subst (λ (x : Option ℕ). IsDist g v t x) is_left left_dist in
-    let front = first_of_dist g s v a limits.is_graph near in
+    let prefix = first_of_dist g s v a limits.is_graph near in
     let back = last_of_dist g v t b limits.is_graph left in
-    let through : IsVia g s t v (front.path ++ back.path) = record {
+    let through : IsVia g s t v (prefix.path ++ back.path) = record {
       vertex = inside;
-      front = front.path;
+      prefix = prefix.path;
       back = back.path;
-      first = front.first;
+      first = prefix.first;
       last = back.last;
       joined = refl;
     } in
     record {
-      path = front.path ++ back.path;
+      path = prefix.path ++ back.path;
       through = through;
-      is_length = sym (via_length g s t v a b (front.path ++ back.path) through near left);
+      is_length = sym (via_length g s t v a b (prefix.path ++ back.path) through near left);
     }
 
 -- the candidate of the vertex is as long
@@ -71,7 +71,7 @@ inside_through g s t v l h =
     let parts = via_parts g s t v h.path h.through in
     let long : l ≡ walk_length g h.path = h.is_length in
     record {
-      from = record { distance = walk_length g via.front; dist = dist_of_shortest g s v via.front via.first.shortest; within = omega (arith, parts, long) };
+      from = record { distance = walk_length g via.prefix; dist = dist_of_shortest g s v via.prefix via.first.shortest; within = omega (arith, parts, long) };
       to = record { distance = walk_length g via.back; dist = dist_of_shortest g v t via.back via.last.shortest; within = omega (arith, parts, long) };
     }
 

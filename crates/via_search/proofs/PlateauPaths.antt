@@ -20,7 +20,7 @@ use Rattle.canonical_trees.specs.Trees.{Trees}
 use Rattle.canonical_trees.proofs.Canonical.{IsLast-nil}
 use Rattle.canonical_trees.proofs.ThroughVertex.{IsVia-unique, via_walk, via_parts}
 use Rattle.plateau_finder.specs.declared.plateau.Plateau.{Plateau}
-use Rattle.plateau_finder.specs.Plateaus.{IsInBoth, IsPlateauOf, IsListed}
+use Rattle.plateau_finder.specs.Plateaus.{IsInBoth, IsPlateauOf, IsListedPlateau}
 use Rattle.tree_tests.specs.Sums.{Shares, carried}
 use Rattle.tree_tests.specs.Never.{IsNever}
 use Rattle.tree_tests.proofs.UpSteps.{carried-le}
@@ -46,9 +46,9 @@ has_denominator q l n h =
 -- only the optimum is the path through the target
 pub target_is_optimum : (g : Graph) (q : Query) (o : Optimum) (v : ℕ) (p : List ℕ) → IsPosed g q o → v ≡ q.to → IsVia g q.from q.to v p → p ≡ o.arcs
 target_is_optimum g q o v p posed same via =
-    let front : via.front ≡ o.arcs = IsFirst-unique g q.from q.to via.front o.arcs (subst (λ (x : ℕ). IsFirst g q.from via.front x) same via.first) posed.best.0 in
+    let prefix : via.prefix ≡ o.arcs = IsFirst-unique g q.from q.to via.prefix o.arcs (subst (λ (x : ℕ). IsFirst g q.from via.prefix x) same via.first) posed.best.0 in
     let back : via.back ≡ [] = IsLast-unique g q.to q.to via.back [] (subst (λ (x : ℕ). IsLast g x via.back q.to) same via.last) (IsLast-nil g q.to) in
-    via.joined ∙ (ap (λ (l : List ℕ). l ++ via.back) front ∙ (ap (λ (l : List ℕ). o.arcs ++ l) back ∙ append-nil o.arcs))
+    via.joined ∙ (ap (λ (l : List ℕ). l ++ via.back) prefix ∙ (ap (λ (l : List ℕ). o.arcs ++ l) back ∙ append-nil o.arcs))
 
 pub not_optimum_route : (g : Graph) (q : Query) (o : Optimum) (n : ℕ) (c : Plateau) → IsPosed g q o → c.last ≡ q.to → IsRouteOf g q o.arcs (pair_of g q n) c None
 not_optimum_route g q o n c posed same p is alternative =
@@ -66,7 +66,7 @@ ends_at_target g q o n c p posed within is other same =
     let dist : IsDist g q.from q.to (Some (walk_length g o.arcs)) = dist_of_shortest g q.from q.to o.arcs posed.best.0.shortest in
     let at_target : IsVia g q.from q.to q.to p = record {
       vertex = IsWalk-inside g o.arcs q.from q.to posed.limits.is_graph posed.source posed.best.0.shortest.walk;
-      front = o.arcs;
+      prefix = o.arcs;
       back = [];
       first = posed.best.0;
       last = IsLast-nil g q.to;
@@ -76,14 +76,14 @@ ends_at_target g q o n c p posed within is other same =
       from = record { distance = walk_length g o.arcs; dist = dist; within = omega arith };
       to = record { distance = 0; dist = IsDist-itself g q.to; within = omega arith };
     } in
-    let d_first = dist_of_shortest g q.from c.first is.first.front is.first.first.shortest in
-    let d_last = dist_of_shortest g q.from c.last is.last.front is.last.first.shortest in
-    let low : walk_length g o.arcs ≤ walk_length g is.last.front = (is.between q.to (walk_length g is.first.front) (walk_length g o.arcs) (walk_length g is.last.front) at_target inside d_first dist d_last).1 in
+    let d_first = dist_of_shortest g q.from c.first is.first.prefix is.first.first.shortest in
+    let d_last = dist_of_shortest g q.from c.last is.last.prefix is.last.first.shortest in
+    let low : walk_length g o.arcs ≤ walk_length g is.last.prefix = (is.between q.to (walk_length g is.first.prefix) (walk_length g o.arcs) (walk_length g is.last.prefix) at_target inside d_first dist d_last).1 in
     let none : walk_length g is.last.back ≡ 0 = omega (arith, via_parts g q.from q.to c.last p is.last) in
     other (no_length g c.last q.to is.last.back posed.limits.is_graph is.last.last.shortest.walk none)
 
 -- the facts of the path that the plateau's least vertex gives
-pub path_of : (g : Graph) (q : Query) (n : ℕ) (c : Plateau) (p : List ℕ) → (h : IsListed (pair_of g q n) (Some n) c) → IsVia g q.from q.to c.least p → p ≡ h.walk
+pub path_of : (g : Graph) (q : Query) (n : ℕ) (c : Plateau) (p : List ℕ) → (h : IsListedPlateau (pair_of g q n) (Some n) c) → IsVia g q.from q.to c.least p → p ≡ h.walk
 path_of g q n c p h via = IsVia-unique g q.from q.to c.least p h.walk via h.is.least
 
 not_allowed : (num den part whole : ℕ) → (part * den ≤ num * whole → ⊥) → num * whole < part * den
@@ -110,7 +110,7 @@ fails_a_test g q o n c x b same own failed h p is alternative =
     let path : p ≡ x.arcs = IsVia-unique g q.from q.to c.least p x.arcs is.least (subst (λ (v : ℕ). IsVia g q.from q.to v x.arcs) same own.through) in
     not_passing g q o.arcs x.arcs b failed h (subst (λ (l : List ℕ). IsAdmissible g q o.arcs l) path alternative.admissible)
 
-pub has_candidate : (g : Graph) (q : Query) (n : ℕ) (c : Plateau) (found : Option Candidate) → IsListed (pair_of g q n) (Some n) c → FindsCandidate g q.from q.to n c.least found → found ≡ None → ⊥
+pub has_candidate : (g : Graph) (q : Query) (n : ℕ) (c : Plateau) (found : Option Candidate) → IsListedPlateau (pair_of g q n) (Some n) c → FindsCandidate g q.from q.to n c.least found → found ≡ None → ⊥
 has_candidate g q n c found h finds none =
     let far : (p : List ℕ) → IsVia g q.from q.to c.least p → n < walk_length g p = subst (λ (o : Option Candidate). FindsCandidate g q.from q.to n c.least o) none finds in
     let long : n < walk_length g h.walk = far h.walk h.is.least in
@@ -127,7 +127,7 @@ pub record Passes (g : Graph) (q : Query) (o : Optimum) (n : ℕ) (c : Plateau) 
   pub via : x.via ≡ c.least
   pub other : walk ≢ o.arcs
 
-pub passes : (g : Graph) (q : Query) (o : Optimum) (n : ℕ) (c : Plateau) (x : Candidate) → IsPosed g q o → IsListed (pair_of g q n) (Some n) c → x.via ≡ c.least → IsCandidate g q.from q.to x → (c.last ≡ q.to → ⊥) → Passes g q o n c x
+pub passes : (g : Graph) (q : Query) (o : Optimum) (n : ℕ) (c : Plateau) (x : Candidate) → IsPosed g q o → IsListedPlateau (pair_of g q n) (Some n) c → x.via ≡ c.least → IsCandidate g q.from q.to x → (c.last ≡ q.to → ⊥) → Passes g q o n c x
 passes g q o n c x posed h same own other =
     record {
       walk = h.walk;
@@ -150,9 +150,9 @@ other_of g q o n c x h same = h.other (sym h.path ∙ same)
 
 pub plateau_fits : (g : Graph) (q : Query) (o : Optimum) (n : ℕ) (c : Plateau) (x : Candidate) → (h : Passes g q o n c x) → c.length ≤ x.length
 plateau_fits g q o n c x h =
-    let d_first = dist_of_shortest g q.from c.first h.is.first.front h.is.first.first.shortest in
-    let d_last = dist_of_shortest g q.from c.last h.is.last.front h.is.last.first.shortest in
-    let long = h.is.long (walk_length g h.is.first.front) (walk_length g h.is.last.front) d_first d_last in
+    let d_first = dist_of_shortest g q.from c.first h.is.first.prefix h.is.first.first.shortest in
+    let d_last = dist_of_shortest g q.from c.last h.is.last.prefix h.is.last.first.shortest in
+    let long = h.is.long (walk_length g h.is.first.prefix) (walk_length g h.is.last.prefix) d_first d_last in
     let same : walk_length g x.arcs ≡ walk_length g h.walk = ap (λ (l : List ℕ). walk_length g l) h.path in
     omega (arith, via_parts g q.from q.to c.last h.walk h.is.last, h.own.is_length, long)
 

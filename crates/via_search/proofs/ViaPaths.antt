@@ -19,7 +19,7 @@ use Rattle.via_search.specs.Candidates.{IsCandidate, IsNear}
 -- a path through a vertex outside a ball of the bound is beyond it
 pub beyond_from : (g : Graph) (s t v bound : ℕ) (radius : Option ℕ) (p : List ℕ) → radius ≡ Some bound → IsOutside g radius s v → IsVia g s t v p → bound < walk_length g p
 beyond_from g s t v bound radius p is out h =
-    let far : bound < walk_length g h.front = subst (λ (r : Option ℕ). IsBeyond r (walk_length g h.front)) is (out h.front h.first.shortest.walk) in
+    let far : bound < walk_length g h.prefix = subst (λ (r : Option ℕ). IsBeyond r (walk_length g h.prefix)) is (out h.prefix h.first.shortest.walk) in
     omega (arith, via_parts g s t v p h)
 
 pub beyond_to : (g : Graph) (s t v bound : ℕ) (radius : Option ℕ) (p : List ℕ) → radius ≡ Some bound → IsOutside g radius v t → IsVia g s t v p → bound < walk_length g p
@@ -52,11 +52,11 @@ candidate_made g s t v a b p h d e low high =
 -- a vertex of a near path is inside the ball
 pub inside_of_via : (g : Graph) (s t v bound : ℕ) (radius : Option ℕ) (p : List ℕ) → radius ≡ Some bound → IsVia g s t v p → walk_length g p ≤ bound → IsInside g radius s v
 inside_of_via g s t v bound radius p is h le =
-    let near : walk_length g h.front ≤ bound = omega (arith, via_parts g s t v p h) in
+    let near : walk_length g h.prefix ≤ bound = omega (arith, via_parts g s t v p h) in
     record {
-      distance = walk_length g h.front;
-      dist = dist_of_shortest g s v h.front h.first.shortest;
-      within = subst (λ (r : Option ℕ). IsWithin r (walk_length g h.front)) (sym is) near;
+      distance = walk_length g h.prefix;
+      dist = dist_of_shortest g s v h.prefix h.first.shortest;
+      within = subst (λ (r : Option ℕ). IsWithin r (walk_length g h.prefix)) (sym is) near;
     }
 
 -- the whole of a walk, as a pair of places

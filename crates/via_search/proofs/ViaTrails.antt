@@ -31,58 +31,58 @@ candidate_walk g s t c h = record { end = t; walk = via_walk g s t c.via c.arcs 
 pub few_places : (g : Graph) (q : Query) (o : Optimum) (c : Candidate) → IsPosed g q o → IsCandidate g q.from q.to c → length c.arcs + 1 < 2 ^ 32
 few_places g q o c posed h =
     let v = h.through in
-    let front : length v.front ≤ g.vertices = shortest_few g v.front q.from c.via posed.limits.is_graph posed.source v.first.shortest in
+    let prefix : length v.prefix ≤ g.vertices = shortest_few g v.prefix q.from c.via posed.limits.is_graph posed.source v.first.shortest in
     let back : length v.back ≤ g.vertices = shortest_few g v.back c.via q.to posed.limits.is_graph v.vertex v.last.shortest in
     let most : g.vertices ≤ 33554432 = posed.limits.few_vertices in
-    let whole : length c.arcs ≡ length (v.front ++ v.back) = ap (λ (l : List ℕ). length l) v.joined in
-    omega (arith, length-append v.front v.back)
+    let whole : length c.arcs ≡ length (v.prefix ++ v.back) = ap (λ (l : List ℕ). length l) v.joined in
+    omega (arith, length-append v.prefix v.back)
 
 pub few_sums : (g : Graph) (q : Query) (o : Optimum) (c : Candidate) (t : Trail) → IsPosed g q o → IsCandidate g q.from q.to c → t ≡ trail_of g q.from c.arcs → length t.sums < 2 ^ 32
 few_sums g q o c t posed h is =
     let same : length t.sums ≡ length (sums g 0 c.arcs) = ap (λ (x : Trail). length x.sums) is in
     omega (arith, length-sums g 0 c.arcs, few_places g q o c posed h)
 
-sum_at_via : (g : Graph) (s t : ℕ) (c : Candidate) (h : IsCandidate g s t c) → get_or (sums g 0 c.arcs) (length h.through.front) 0 ≡ c.near
+sum_at_via : (g : Graph) (s t : ℕ) (c : Candidate) (h : IsCandidate g s t c) → get_or (sums g 0 c.arcs) (length h.through.prefix) 0 ≡ c.near
 sum_at_via g s t c h =
     let v = h.through in
-    let here : get_or (sums g 0 (v.front ++ v.back)) (length v.front) 0 ≡ 0 + walk_length g v.front = sum_after g v.front v.back 0 in
-    let moved : get_or (sums g 0 c.arcs) (length v.front) 0 ≡ get_or (sums g 0 (v.front ++ v.back)) (length v.front) 0 = ap (λ (l : List ℕ). get_or (sums g 0 l) (length v.front) 0) v.joined in
+    let here : get_or (sums g 0 (v.prefix ++ v.back)) (length v.prefix) 0 ≡ 0 + walk_length g v.prefix = sum_after g v.prefix v.back 0 in
+    let moved : get_or (sums g 0 c.arcs) (length v.prefix) 0 ≡ get_or (sums g 0 (v.prefix ++ v.back)) (length v.prefix) 0 = ap (λ (l : List ℕ). get_or (sums g 0 l) (length v.prefix) 0) v.joined in
     omega (arith, near_of_via g s t c.via c.near c.arcs v h.dist)
 
-front_inside : (g : Graph) (s t : ℕ) (c : Candidate) (h : IsCandidate g s t c) → length h.through.front ≤ length c.arcs
-front_inside g s t c h =
+prefix_inside : (g : Graph) (s t : ℕ) (c : Candidate) (h : IsCandidate g s t c) → length h.through.prefix ≤ length c.arcs
+prefix_inside g s t c h =
     let v = h.through in
-    let whole : length c.arcs ≡ length (v.front ++ v.back) = ap (λ (l : List ℕ). length l) v.joined in
-    omega (arith, length-append v.front v.back)
+    let whole : length c.arcs ≡ length (v.prefix ++ v.back) = ap (λ (l : List ℕ). length l) v.joined in
+    omega (arith, length-append v.prefix v.back)
 
 contains_at : (xs : List ℕ) (i x : ℕ) → i < length xs → get_or xs i 0 ≡ x → Contains xs x
 contains_at xs i x lt is = (i, lt, default_of xs i x lt ∙ is)
 
 pub via_stands : (g : Graph) (s t : ℕ) (c : Candidate) (trail : Trail) → IsCandidate g s t c → trail ≡ trail_of g s c.arcs → Contains trail.sums c.near
 via_stands g s t c trail h is =
-    let inside : length h.through.front < length (sums g 0 c.arcs) = omega (arith, front_inside g s t c h, length-sums g 0 c.arcs) in
+    let inside : length h.through.prefix < length (sums g 0 c.arcs) = omega (arith, prefix_inside g s t c h, length-sums g 0 c.arcs) in
     subst (λ (l : List ℕ). Contains l c.near) (sym (ap (λ (x : Trail). x.sums) is))
-    (contains_at (sums g 0 c.arcs) (length h.through.front) c.near inside (sum_at_via g s t c h))
+    (contains_at (sums g 0 c.arcs) (length h.through.prefix) c.near inside (sum_at_via g s t c h))
 
 -- the place whose length so far is the distance of the via is that of the via
-place_is : (g : Graph) (q : Query) (o : Optimum) (c : Candidate) (t : Trail) (place : ℕ) → IsPosed g q o → (h : IsCandidate g q.from q.to c) → t ≡ trail_of g q.from c.arcs → place < length t.sums → get_or t.sums place 0 ≡ c.near → place ≡ length h.through.front
+place_is : (g : Graph) (q : Query) (o : Optimum) (c : Candidate) (t : Trail) (place : ℕ) → IsPosed g q o → (h : IsCandidate g q.from q.to c) → t ≡ trail_of g q.from c.arcs → place < length t.sums → get_or t.sums place 0 ≡ c.near → place ≡ length h.through.prefix
 place_is g q o c t place posed h is lt here =
     let same : t.sums ≡ sums g 0 c.arcs = ap (λ (x : Trail). x.sums) is in
     let long : length t.sums ≡ length (sums g 0 c.arcs) = ap (λ (l : List ℕ). length l) same in
     let near : get_or (sums g 0 c.arcs) place 0 ≡ c.near = ap (λ (l : List ℕ). get_or l place 0) (sym same) ∙ here in
-    place_unique g c.arcs q.from q.to place (length h.through.front) posed.limits.is_graph (via_walk g q.from q.to c.via c.arcs h.through)
-    (omega (arith, length-sums g 0 c.arcs)) (front_inside g q.from q.to c h) (near ∙ sym (sum_at_via g q.from q.to c h))
+    place_unique g c.arcs q.from q.to place (length h.through.prefix) posed.limits.is_graph (via_walk g q.from q.to c.via c.arcs h.through)
+    (omega (arith, length-sums g 0 c.arcs)) (prefix_inside g q.from q.to c h) (near ∙ sym (sum_at_via g q.from q.to c h))
 
 -- so it is the length of any list of arcs that leads to the via canonically
-pub place_of_via : (g : Graph) (q : Query) (o : Optimum) (c : Candidate) (t : Trail) (place : ℕ) → IsPosed g q o → IsCandidate g q.from q.to c → t ≡ trail_of g q.from c.arcs → place < length t.sums → get_or t.sums place 0 ≡ c.near → (h : IsVia g q.from q.to c.via c.arcs) → place ≡ length h.front
+pub place_of_via : (g : Graph) (q : Query) (o : Optimum) (c : Candidate) (t : Trail) (place : ℕ) → IsPosed g q o → IsCandidate g q.from q.to c → t ≡ trail_of g q.from c.arcs → place < length t.sums → get_or t.sums place 0 ≡ c.near → (h : IsVia g q.from q.to c.via c.arcs) → place ≡ length h.prefix
 place_of_via g q o c t place posed own is lt here h =
-    place_is g q o c t place posed own is lt here ∙ ap (λ (l : List ℕ). length l) (IsFirst-unique g q.from c.via own.through.front h.front own.through.first h.first)
+    place_is g q o c t place posed own is lt here ∙ ap (λ (l : List ℕ). length l) (IsFirst-unique g q.from c.via own.through.prefix h.prefix own.through.first h.first)
 
 pub is_via_walk : (g o : Graph) (q : Query) (best : Optimum) (c : Candidate) (t : Trail) (place : ℕ) → IsPosed g q best → HaveSameDist g o → IsCandidate g q.from q.to c → t ≡ trail_of g q.from c.arcs → place < length t.sums → get_or t.sums place 0 ≡ c.near → IsViaWalk o t place
 is_via_walk g o q best c t place posed same h is lt here =
     let v = h.through in
-    let whole : length c.arcs ≡ length (v.front ++ v.back) = ap (λ (l : List ℕ). length l) v.joined in
-    let long : walk_length g c.arcs ≡ walk_length g (v.front ++ v.back) = ap (λ (l : List ℕ). walk_length g l) v.joined in
+    let whole : length c.arcs ≡ length (v.prefix ++ v.back) = ap (λ (l : List ℕ). length l) v.joined in
+    let long : walk_length g c.arcs ≡ walk_length g (v.prefix ++ v.back) = ap (λ (l : List ℕ). walk_length g l) v.joined in
     record {
       graph = g;
       same = same;
@@ -91,9 +91,9 @@ is_via_walk g o q best c t place posed same h is lt here =
       middle = c.via;
       target = q.to;
       inside = posed.source;
-      front = v.front;
+      prefix = v.prefix;
       back = v.back;
-      front_shortest = v.first.shortest;
+      prefix_shortest = v.first.shortest;
       back_shortest = v.last.shortest;
       is = is ∙ ap (λ (l : List ℕ). trail_of g q.from l) v.joined;
       place = place_is g q best c t place posed h is lt here;

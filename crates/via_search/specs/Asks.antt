@@ -23,7 +23,7 @@ abbrev pub cost : ℕ → ℕ → ℕ
 cost a b = a * b + a + (a + b) + 1
 
 pub record BoundsEach (g : Graph) (s t bound : ℕ) (o : List ℕ) (f : ℕ → ℕ) : Type 0 where
-  pub each : (v : ℕ) (p : List ℕ) (h : IsName g s t p v) → walk_length g p ≤ bound → p ≢ o → cost (length h.through.front) (length h.through.back) ≤ f v
+  pub each : (v : ℕ) (p : List ℕ) (h : IsName g s t p v) → walk_length g p ≤ bound → p ≢ o → cost (length h.through.prefix) (length h.through.back) ≤ f v
 
 abbrev pub total : (ℕ → ℕ) → ℕ → ℕ
 total f zero = 0
@@ -36,7 +36,7 @@ abbrev pub AsksFor : Graph → ℕ → ℕ → ℕ → List ℕ → ℕ → ℕ 
 AsksFor g s t bound o name old new = (f : ℕ → ℕ) → BoundsEach g s t bound o f → new ≤ old + f name
 
 abbrev pub AsksOnce : Graph → ℕ → ℕ → List ℕ → ℕ → ℕ → ℕ → Type 0
-AsksOnce g s t p v old new = (h : IsVia g s t v p) → new ≤ old + cost (length h.front) (length h.back)
+AsksOnce g s t p v old new = (h : IsVia g s t v p) → new ≤ old + cost (length h.prefix) (length h.back)
 
 pub record AsksForPlan (g : Graph) (q : Query) (old new : ℕ) : Type 0 where
   pub paths : (o : List ℕ) (bound : ℕ) → IsFirst g q.from o q.to → ((n : ℕ) → Stretches q.epsilon n (walk_length g o) → n ≤ bound) → AsksAtMost g q.from q.to bound o old new

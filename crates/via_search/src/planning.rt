@@ -38,7 +38,7 @@ pub fn plan_in<O: Oracle>(
     ensures counted { StaysCounted (O.asked oracle.old) (O.asked oracle.new) }
     ensures asks { AsksForPlan star.now query.now (O.asked oracle.old) (O.asked oracle.new) }
 {
-    let _limits = star.graph();
+    star.within_limits();
     let Some(optimum) = optimum_in(alloc, &mut memory.trees, star, query.from, query.to)? else {
         return Ok(Plan::NoPath);
     };

@@ -4,7 +4,7 @@ ghost use Rattle.std.specs.Prelude.{◌≡◌, Some, IfOk};
 ghost use Rattle.road_model.specs.Graph.{IsVertex};
 ghost use Rattle.road_model.specs.Dist.{HaveSameDist};
 ghost use Rattle.road_model.specs.Answers.{IsListing};
-ghost use Rattle.plateau_finder.specs.Plateaus.{IsListed, ArePlateaus};
+ghost use Rattle.plateau_finder.specs.Plateaus.{IsListedPlateau, ArePlateaus};
 ghost use Rattle.via_search.specs.Candidates.{IsPosed, IsBoundOf};
 ghost use Rattle.via_search.specs.Settings.{trees_of};
 ghost use Rattle.via_search.specs.Judging.{StaysCounted};
@@ -38,7 +38,7 @@ fn route_of<O: Oracle>(
     requires bound { IsBoundOf setting.now.query setting.now.optimum.length setting.now.reach }
     requires sums { sums.old ≡ record { trees = trees_of setting.now; optimum = setting.now.optimum.arcs } }
     requires ways { ways.old ≡ trees_of setting.now }
-    requires listed { IsListed (trees_of setting.now) (Some setting.now.reach) plateau.now }
+    requires listed { IsListedPlateau (trees_of setting.now) (Some setting.now.reach) plateau.now }
     ensures route { IfOk result
         (IsRouteOf setting.now.graph setting.now.query setting.now.optimum.arcs (trees_of setting.now) plateau.now) }
     ensures sums { sums.new ≡ sums.old }

@@ -79,7 +79,7 @@ fn query_of(star: &Star, ends: (u32, u32), ratios: Ratios) -> Result<Query, Fail
     ensures { IfOk result
         (λ q. IsVertex star.now.vertices q.from × IsVertex star.now.vertices q.to) }
 {
-    let vertices = star.graph().vertices();
+    let vertices = star.vertices();
     let (from, to) = ends;
     if from == 0 || from > vertices || to == 0 || to > vertices {
         return Err("no such vertex".into());
@@ -108,7 +108,7 @@ fn plan_over<O: Oracle>(
 }
 
 fn plan_of(alloc: Global, star: &Star, ends: (u32, u32), ratios: Ratios) -> Result<Plan, Fail> {
-    let _limits = star.graph();
+    star.within_limits();
     let mut oracle = PlainOracle::new(alloc, star)?;
     let made = plan_over(alloc, star, &mut oracle, ends, ratios)?;
     Ok(made.ok_or("no memory")?)
@@ -204,7 +204,7 @@ fn plan_kept(
     star: &Star,
     ends: (u32, u32),
 ) -> Result<Plan, Fail> {
-    let _limits = star.graph();
+    star.within_limits();
     let mut oracle = PlainOracle::new(alloc, star)?;
     let query = query_of(star, ends, DEFAULT)?;
     let plan = plan_in(alloc, memory, star, &mut oracle, &query)?;
@@ -274,7 +274,7 @@ fn verdict_over<O: Oracle>(
 ) -> Result<Option<Option<Verdict>>, Fail>
     requires { HaveSameDist star.now (O.graph oracle.old) }
 {
-    let vertices = star.graph().vertices();
+    let vertices = star.vertices();
     if via == 0 || via > vertices {
         return Err("no such vertex".into());
     }
@@ -289,7 +289,7 @@ fn verdict_of(
     via: u32,
     ratios: Ratios,
 ) -> Result<String, Fail> {
-    let _limits = star.graph();
+    star.within_limits();
     let mut oracle = PlainOracle::new(alloc, star)?;
     let found = verdict_over(alloc, star, &mut oracle, ends, via, ratios)?;
     let mut text = String::new(alloc);

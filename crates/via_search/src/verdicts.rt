@@ -35,7 +35,7 @@ fn distance<O: Oracle>(
     ensures same { O.graph oracle.new ≡ O.graph oracle.old }
     ensures counted { StaysCounted (O.asked oracle.old) (O.asked oracle.new) }
 {
-    let _limits = star.graph();
+    star.within_limits();
     oracle.distance(from, to)
 }
 
@@ -54,7 +54,7 @@ fn length_through<O: Oracle>(
     ensures same { O.graph oracle.new ≡ O.graph oracle.old }
     ensures counted { StaysCounted (O.asked oracle.old) (O.asked oracle.new) }
 {
-    let _limits = star.graph();
+    star.within_limits();
     let Some(near) = distance(star, oracle, query.from, via)? else {
         return Ok(None);
     };
@@ -131,7 +131,7 @@ pub fn verdict_in<O: Oracle>(
     ensures same { O.graph oracle.new ≡ O.graph oracle.old }
     ensures counted { StaysCounted (O.asked oracle.old) (O.asked oracle.new) }
 {
-    let _limits = star.graph();
+    star.within_limits();
     let Some(optimum) = optimum_in(alloc, &mut memory.trees, star, query.from, query.to)? else {
         return Ok(None);
     };

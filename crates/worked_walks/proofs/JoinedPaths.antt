@@ -26,19 +26,19 @@ found_at g s v result o is best short =
       short = subst (λ (x : Option Optimum). IfSome x (λ (y : Optimum). y.length < 2 ^ 57)) is short;
     }
 
-pub walk_of_paths : (g : Graph) (s v t : ℕ) (front back : Optimum) (arcs : List ℕ) → IsFound g s v front → IsFound g v t back → arcs ≡ front.arcs ++ back.arcs → IsWalkFrom g s arcs
-walk_of_paths g s v t front back arcs h k is =
+pub walk_of_paths : (g : Graph) (s v t : ℕ) (prefix back : Optimum) (arcs : List ℕ) → IsFound g s v prefix → IsFound g v t back → arcs ≡ prefix.arcs ++ back.arcs → IsWalkFrom g s arcs
+walk_of_paths g s v t prefix back arcs h k is =
     subst (λ (p : List ℕ). IsWalkFrom g s p) (sym is)
-    (record { end = t; walk = IsWalk-append g front.arcs back.arcs s v t h.best.0.shortest.walk k.best.0.shortest.walk })
+    (record { end = t; walk = IsWalk-append g prefix.arcs back.arcs s v t h.best.0.shortest.walk k.best.0.shortest.walk })
 
-pub short_walk : (g : Graph) (s v t : ℕ) (front back : Optimum) (arcs : List ℕ) → IsFound g s v front → IsFound g v t back → arcs ≡ front.arcs ++ back.arcs → walk_length g arcs < 2 ^ 58
-short_walk g s v t front back arcs h k is =
+pub short_walk : (g : Graph) (s v t : ℕ) (prefix back : Optimum) (arcs : List ℕ) → IsFound g s v prefix → IsFound g v t back → arcs ≡ prefix.arcs ++ back.arcs → walk_length g arcs < 2 ^ 58
+short_walk g s v t prefix back arcs h k is =
     subst (λ (p : List ℕ). walk_length g p < 2 ^ 58) (sym is)
-    (omega (arith, walk_length-append g front.arcs back.arcs, h.best.1, k.best.1, h.short, k.short))
+    (omega (arith, walk_length-append g prefix.arcs back.arcs, h.best.1, k.best.1, h.short, k.short))
 
-pub via_walk_of : (g : Graph) (s v t via : ℕ) (front back : Optimum) (arcs : List ℕ) (trail : Trail) → IsWithinLimits g → IsVertex g.vertices s → IsFound g s v front → IsFound g v t back → arcs ≡ front.arcs ++ back.arcs → length arcs ≤ 1000 → trail ≡ trail_of g s arcs → via ≡ length front.arcs → IsViaWalk g trail via
-via_walk_of g s v t via front back arcs trail limits inside h k is few at place =
-    let long : length (front.arcs ++ back.arcs) ≤ 1000 = subst (λ (p : List ℕ). length p ≤ 1000) is few in
+pub via_walk_of : (g : Graph) (s v t via : ℕ) (prefix back : Optimum) (arcs : List ℕ) (trail : Trail) → IsWithinLimits g → IsVertex g.vertices s → IsFound g s v prefix → IsFound g v t back → arcs ≡ prefix.arcs ++ back.arcs → length arcs ≤ 1000 → trail ≡ trail_of g s arcs → via ≡ length prefix.arcs → IsViaWalk g trail via
+via_walk_of g s v t via prefix back arcs trail limits inside h k is few at place =
+    let long : length (prefix.arcs ++ back.arcs) ≤ 1000 = subst (λ (p : List ℕ). length p ≤ 1000) is few in
     record {
       graph = g;
       same = HaveSameDist-refl g;
@@ -47,12 +47,12 @@ via_walk_of g s v t via front back arcs trail limits inside h k is few at place 
       middle = v;
       target = t;
       inside = inside;
-      front = front.arcs;
+      prefix = prefix.arcs;
       back = back.arcs;
-      front_shortest = h.best.0.shortest;
+      prefix_shortest = h.best.0.shortest;
       back_shortest = k.best.0.shortest;
       is = subst (λ (p : List ℕ). trail ≡ trail_of g s p) is at;
       place = place;
       few = omega arith;
-      short = short_walk g s v t front back (front.arcs ++ back.arcs) h k refl;
+      short = short_walk g s v t prefix back (prefix.arcs ++ back.arcs) h k refl;
     }

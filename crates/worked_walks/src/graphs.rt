@@ -83,10 +83,10 @@ fn are_vertices(star: &Star, s: u32, v: u32, t: u32) -> bool
     1 <= s && s <= last && 1 <= v && v <= last && 1 <= t && t <= last
 }
 
-fn joined(alloc: Global, front: &ArcList, back: &ArcList) -> Result<ArcList, NoMemory>
-    ensures { IfOk result (λ arcs. arcs ≡ front.now ++ back.now) }
+fn joined(alloc: Global, prefix: &ArcList, back: &ArcList) -> Result<ArcList, NoMemory>
+    ensures { IfOk result (λ arcs. arcs ≡ prefix.now ++ back.now) }
 {
-    let mut arcs = Vec::from_slice(alloc, front.as_slice())?;
+    let mut arcs = Vec::from_slice(alloc, prefix.as_slice())?;
     arcs.extend_from_slice(back.as_slice())?;
     Ok(ArcList::from_vec(arcs))
 }
@@ -101,24 +101,24 @@ pub fn walk_through(
 ) -> Result<Option<ViaWalk>, NoMemory>
     ensures { IfOk result (λ found. IfSome found (λ w. IsViaWalk star.now w.trail w.via_at)) }
 {
-    let _limits = star.graph();
+    star.within_limits();
     if !are_vertices(star, s, v, t) {
         return Ok(None);
     }
-    let Some(front) = optimum(alloc, star, Vertex(s), Vertex(v))? else {
+    let Some(prefix) = optimum(alloc, star, Vertex(s), Vertex(v))? else {
         return Ok(None);
     };
     let Some(back) = optimum(alloc, star, Vertex(v), Vertex(t))? else {
         return Ok(None);
     };
-    let arcs = joined(alloc, &front.arcs, &back.arcs)?;
+    let arcs = joined(alloc, &prefix.arcs, &back.arcs)?;
     if arcs.len() > 1000 {
         return Ok(None);
     }
     let trail = Trail::of(alloc, star, Vertex(s), arcs.as_slice())?;
     Ok(Some(ViaWalk {
         trail,
-        via_at: front.arcs.len() as u32,
+        via_at: prefix.arcs.len() as u32,
     }))
 }
 
@@ -131,7 +131,7 @@ pub fn failing_pair(
     t: u32,
     test: Test,
 ) -> Result<Option<Option<Pair>>, NoMemory> {
-    let _limits = star.graph();
+    star.within_limits();
     let Some(walk) = walk_through(alloc, star, s, v, t)? else {
         return Ok(None);
     };

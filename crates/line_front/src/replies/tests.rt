@@ -248,9 +248,9 @@ fn cut(rt: &impl Abort, alloc: Global, failing: &[u64], wanted: &[u8]) {
 }
 
 #[test]
-fn after_a_failed_write_a_front_of_the_line_stands(rt: HostRuntime) {
+fn after_a_failed_write_a_prefix_of_the_line_stands(rt: HostRuntime) {
     let alloc = rt.alloc();
     cut(&rt, alloc, &[0, 1], b"");
-    cut(&rt, alloc, &[2, 3], b"error gone ");
-    cut(&rt, alloc, &[3, 4], b"error gone 7");
+    cut(&rt, alloc, &[2, 3], b"error gone");
+    cut(&rt, alloc, &[4, 5], b"error gone 7");
 }

@@ -4,7 +4,7 @@ use Rattle.canonical_trees.proofs.descent.follow.Goals as goal
 
 pub loop-step-preserved : goal.loop-step-preserved
 loop-step-preserved g c = record {
-  labelled = some_at _ c.in-Some.ensures.near c.in-Some.ensures.behind;
+  labelled = some_at _ c.in-Some.ensures.near c.in-Some.ensures.beyond;
   walked =
       let before = c.loop-step.invariant.walked in
       let s = c.in-Some.step in (

@@ -1,7 +1,7 @@
 use Rattle.std.proofs.Common.{ℕ, List, [], ◌++◌, Ok, refl, subst, ap, ◌∙◌, arith}
 use Rattle.road_io.proofs.ToldLemmas.{IfTold_both, told_same}
 use Rattle.road_text.specs.Reader.{held, budget, Steps}
-use Rattle.road_text.proofs.BehindLemmas.{IsBehind-fresh}
+use Rattle.road_text.proofs.BeyondLemmas.{IsBeyond-fresh}
 use Rattle.dimacs_reader.specs.declared.builder.Gathered.{Gathered}
 use Rattle.dimacs_reader.specs.declared.line.TheConstants.{MAX_LINE, MAX_FILE}
 use Rattle.dimacs_reader.specs.Gathering.{Gathers, GathersAll, GathersOn}
@@ -18,7 +18,7 @@ lines-init g c =
       few = omega (arith, fresh.whole, c.new-builder.ensures.lines);
       told = told_same _ _ (λ (text : List ℕ). record {
         before = [];
-        behind = IsBehind-fresh c.in_ok-reader.reader MAX_LINE MAX_FILE text fresh;
+        beyond = IsBeyond-fresh c.in_ok-reader.reader MAX_LINE MAX_FILE text fresh;
         after = c.new-builder.ensures.after;
         clean = first_fault-nil [];
       });

@@ -1,5 +1,6 @@
+use Rattle.road_model.specs.Graph.{rows_of}
 use Rattle.hierarchy_build.proofs.Arcs.{ArcsSoFar}
 use Rattle.hierarchy_build.proofs.base.lower_arcs.Given as goal
 
-abbrev pub invariant-loop-arc : goal.invariant-loop-arc
-invariant-loop-arc l = ArcsSoFar l.ranks l.rank l.first l.head l.arcs l.arc-index l.fn.up l.fn.down l.up l.down
+abbrev pub invariant-loop-place : goal.invariant-loop-place
+invariant-loop-place l = ArcsSoFar l.ranks l.rank l.first l.head (rows_of l.star) l.place l.fn.up l.fn.down l.up l.down

@@ -23,7 +23,7 @@ loop-j-preserved c =
     let low = c.requires.place.low in
     let at_j : InSpan c.args.first.now c.args.v j = record { low = omega arith; high = omega arith } in
     let across : IsAcross c.args.first.now c.args.head.now c.args.i c.loop-j.j c.place_of-k.result =
-    across_found n first head c.args.v c.args.i j c.loop-j.at k shape c.requires.rank c.requires.place at_j (omega arith) c.loop-j.invariant.behind c.place_of-k.ensures.late c.place_of-k.ensures.found c.place_of-k.ensures.earliest
+    across_found n first head c.args.v c.args.i j c.loop-j.at k shape c.requires.rank c.requires.place at_j (omega arith) c.loop-j.invariant.beyond c.place_of-k.ensures.late c.place_of-k.ensures.found c.place_of-k.ensures.earliest
     (λ b over. c.loop-j.invariant.next j b (omega arith) at_j over) in
     let more = RowSoFar-more n first head c.args.up.now c.args.down.now c.loop-j.up c.loop-j.down c.args.v c.args.i j c.loop-j.at k c.requires.can c.requires.rank c.requires.place at_j (omega arith) c.loop-j.invariant across in
     subst (λ (xs : List ℕ). RowSoFar c.args.ranks c.args.first.now c.args.head.now c.args.up.now c.args.down.now xs c.lower-in-loop-j.new.lengths c.args.v c.args.i (c.loop-j.j + 1) (c.place_of-k.result + 1)) (sym c.lower.ensures)

@@ -1,7 +1,7 @@
 use Rattle.std.proofs.Common.{◌-◌, ◌/◌, ℕ, arith}
 use Rattle.local_optimality.specs.Detour.{IsDetour}
 use Rattle.local_optimality.proofs.ClearSubpaths.{local_none}
-use Rattle.local_optimality.proofs.Halvings.{OnRounds-start, OnRounds-cleared, OnRounds-halved, detour_behind, IsDetour-told, last_of_one}
+use Rattle.local_optimality.proofs.Halvings.{OnRounds-start, OnRounds-cleared, OnRounds-halved, detour_beyond, IsDetour-told, last_of_one}
 use Rattle.local_optimality.proofs.optimality.failing_start.Goals as goal
 
 pub rounds-init : goal.rounds-init
@@ -27,7 +27,7 @@ returns-then-end-first-eq1-clause-found g c =
     let detour : IsDetour old c.args.trail.now first last c.in-Some.distance = IsDetour-told old (g.O.Oracle.graph c.rounds.oracle) c.args.trail.now first last c.in-Some.distance c.in_ok-detour_to.field-0 c.rounds.invariant.same c.in_ok-detour_to.ensures.found c.in-Some.is in
     record {
       before = before;
-      behind = detour_behind old c.args.trail.now c.args.via_at first last c.in-Some.distance c.requires before (omega arith) detour;
+      beyond = detour_beyond old c.args.trail.now c.args.via_at first last c.in-Some.distance c.requires before (omega arith) detour;
       inside = c.last_tested-last.ensures.inside;
       below = c.rounds.invariant.passed;
       tested = last_of_one c.args.alpha.now c.args.opt_len c.args.trail.now c.args.via_at first c.end_of-end.result last c.if-end-first-eq1.true c.end_of-end.ensures.onward c.last_tested-last.ensures.tested;

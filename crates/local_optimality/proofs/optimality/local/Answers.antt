@@ -25,7 +25,7 @@ least_end-requires g c =
     record {
       joined = subst (λ (x : Graph). IsJoinedTrail x c.args.trail.now c.args.via_at) (sym c.failing_start.ensures.same) joined;
       before = failing.before;
-      behind = failing.behind;
+      beyond = failing.beyond;
       inside = failing.inside;
       detour = subst (λ (x : Graph). IsDetour x c.args.trail.now c.in-Some.failing.first c.in-Some.failing.last c.in-Some.failing.distance) (sym c.failing_start.ensures.same) failing.detour;
     }

@@ -25,7 +25,7 @@ distance_between-requires g c =
     let joined = IsJoinedTrail-from_via_walk old c.args.trail.now c.args.via_at c.requires in
     let area = IsRectangle-whole c.args.trail.now c.args.via_at c.in-Some.whole (whole_in c.args.trail.now c.args.via_at c.whole_rectangle.result c.in-Some.whole c.whole_rectangle.ensures c.in-Some.is) in
     let start : c.in-Some.whole.low < length c.args.trail.now.vertices = omega (arith, area.rows, area.before, joined.via_inside) in
-    let rise : c.in-Some.whole.low ≤ c.in-Some.whole.to = omega (arith, area.rows, area.before, area.behind, area.columns) in
+    let rise : c.in-Some.whole.low ≤ c.in-Some.whole.to = omega (arith, area.rows, area.before, area.beyond, area.columns) in
     record {
       start = start;
       inside = area.inside;

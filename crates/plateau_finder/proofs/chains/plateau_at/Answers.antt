@@ -11,7 +11,7 @@ returns-then-not-is_within c =
 pub returns : goal.returns
 returns c =
     starts c.args.pair.now c.args.bound c.args.v c.in-Some.near c.in-Some-to_label.left c.plateau_from.result
-    (sound_of c.args.pair.now.graph c.star.result.now c.star.ensures c.graph-limits.ensures.limits)
+    (sound_of c.args.pair.now.graph c.star.result.now c.star.ensures c.within_limits.ensures)
     (vertex_of c.args.pair.now.graph c.args.pair.now.source c.source-source.result c.source-source.ensures.source c.source-source.ensures.inside)
     (inside_both c.args.pair.now c.args.v c.in-Some.near c.in-Some-to_label.left c.in-Some.ensures.label c.in-Some-to_label.ensures.label)
     c.in-Some.ensures.label.0 c.in-Some-to_label.ensures.label.0

@@ -27,5 +27,5 @@ loop-v-preserved c =
 pub returns : goal.returns
 returns c =
     gathered_all c.args.pair.now c.args.bound c.as_slice-v-items.result.now c.from_members.result.now c.loop-v.v-index c.loop-v.found.items
-    (sound_of c.args.pair.now.graph c.star.result.now c.star.ensures c.graph-limits.ensures.limits)
+    (sound_of c.args.pair.now.graph c.star.result.now c.star.ensures c.within_limits.ensures)
     c.from_members.ensures c.as_slice-v-items.ensures (omega arith) c.loop-v.invariant

@@ -10,7 +10,7 @@ pub named-requires : goal.named-requires
 named-requires c =
     subst (λ (l : List Plateau). HasLeast l c.plateau_from-chain.result.least) (sym c.as_slice.ensures)
     (has_least c.args.pair.now c.args.list.now c.args.v c.plateau_from-chain.result
-    (sound_of c.args.pair.now.graph c.star.result.now c.star.ensures c.graph-limits.ensures.limits)
+    (sound_of c.args.pair.now.graph c.star.result.now c.star.ensures c.within_limits.ensures)
     (vertex_of c.args.pair.now.graph c.args.pair.now.source c.source-source.result c.source-source.ensures.source c.source-source.ensures.inside)
     c.requires
     (inside_both c.args.pair.now c.args.v c.in-Some._near c.in-Some-to_label._left c.in-Some.ensures.label c.in-Some-to_label.ensures.label)

@@ -13,4 +13,4 @@ pub returns-clause-unreached : goal.returns-clause-unreached
 returns-clause-unreached c = no_via_5
 
 pub returns-clause-reached : goal.returns-clause-reached
-returns-clause-reached c = λ h. h via_3.front via_3.back via_3.first.shortest.walk via_3.last.shortest.walk
+returns-clause-reached c = λ h. h via_3.prefix via_3.back via_3.first.shortest.walk via_3.last.shortest.walk

@@ -13,4 +13,4 @@ pub ball-requires-clause-bounded : goal.ball-requires-clause-bounded
 ball-requires-clause-bounded c =
     let g = c.args.star.now in
     let is = c.unwrap_or.ensures in
-    bounded g c.args.radius (DistsBelow-weaker g (2 ^ 57) (2 ^ 58) (omega arith) (dists_below g c.graph.ensures.limits)) (omega arith)
+    bounded g c.args.radius (DistsBelow-weaker g (2 ^ 57) (2 ^ 58) (omega arith) (dists_below g c.vertices-vertices.ensures.limits)) (omega arith)

@@ -5,4 +5,4 @@ use Rattle.tree_search.proofs.tests.distance_to.Goals as goal
 pub labels_to-requires-clause-near : goal.labels_to-requires-clause-near
 labels_to-requires-clause-near c =
     let g = c.args.star.now in
-    DistsBelow-weaker g (2 ^ 57) (2 ^ 58) (omega arith) (dists_below g c.graph.ensures.limits)
+    DistsBelow-weaker g (2 ^ 57) (2 ^ 58) (omega arith) (dists_below g c.vertices-vertices.ensures.limits)

@@ -5,7 +5,7 @@ use Rattle.tree_tests.proofs.refusals.tried.Goals as goal
 pub returns-clause-never : goal.returns-clause-never
 returns-clause-never c = λ t.
     let ts = c.args.pair.now in
-    let sound = sound_of ts.graph c.star.result.now c.star.ensures c.graph-limits.ensures.limits in
+    let sound = sound_of ts.graph c.star.result.now c.star.ensures c.within_limits.ensures in
     let at_y = met_some ts c.args.side c.args.w c.args.x c.met.result c.in-Some-met.y
     (c.met.ensures ts c.args.side c.fill.ensures (on_of_dist ts c.args.side c.args.w c.in-Some._near sound c.in-Some.ensures.is) (on_of_dist ts c.args.side c.args.x c.in-Some-label._far sound c.in-Some-label.ensures.is))
     c.in-Some-met.is in

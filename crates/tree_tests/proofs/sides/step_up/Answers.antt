@@ -5,11 +5,11 @@ use Rattle.tree_tests.proofs.sides.step_up.Goals as goal
 pub returns-in-Source : goal.returns-in-Source
 returns-in-Source c =
     up_at c.args.pair.now c.args.side Source c.args.v c.from_step.result c.in-Source.is
-    (up_from c.args.pair.now c.args.v c.from_step.result (sound_of c.args.pair.now.graph c.star.result.now c.star.ensures c.graph-limits.ensures.limits)
+    (up_from c.args.pair.now c.args.v c.from_step.result (sound_of c.args.pair.now.graph c.star.result.now c.star.ensures c.within_limits.ensures)
     (inside_at c.args.pair.now c.args.side Source c.args.v c.in-Source.is c.requires) c.from_step.ensures)
 
 pub returns-in-Target : goal.returns-in-Target
 returns-in-Target c =
     up_at c.args.pair.now c.args.side Target c.args.v c.to_step.result c.in-Target.is
-    (up_to c.args.pair.now c.args.v c.to_step.result (sound_of c.args.pair.now.graph c.star.result.now c.star.ensures c.graph-limits.ensures.limits)
+    (up_to c.args.pair.now c.args.v c.to_step.result (sound_of c.args.pair.now.graph c.star.result.now c.star.ensures c.within_limits.ensures)
     (inside_at c.args.pair.now c.args.side Target c.args.v c.in-Target.is c.requires) c.to_step.ensures)

@@ -4,7 +4,7 @@ use Rattle.road_model.specs.Graph.{Graph}
 use Rattle.road_model.specs.Dist.{HaveSameDist}
 use Rattle.canonical_trees.specs.Trees.{Trees}
 use Rattle.plateau_finder.specs.declared.plateau.Plateau.{Plateau}
-use Rattle.plateau_finder.specs.Plateaus.{IsListed}
+use Rattle.plateau_finder.specs.Plateaus.{IsListedPlateau}
 use Rattle.tree_tests.specs.Sums.{Shares}
 use Rattle.via_search.specs.Candidates.{IsPosed}
 use Rattle.via_search.specs.Settings.{Givens, trees_of}
@@ -31,8 +31,8 @@ loop-plateau-init g c =
 pub route_of-requires : goal.route_of-requires
 route_of-requires g c =
     let s = c.args.setting.now in
-    let each : IsListed (trees_of s) (Some s.reach) c.plateau-item.result =
-    subst (λ (x : Plateau). IsListed (trees_of s) (Some s.reach) x) (sym c.plateau-item.is) (c.requires.plateaus.each c.loop-plateau.plateau-index c.plateau-item.result c.loop-plateau-test.true) in
+    let each : IsListedPlateau (trees_of s) (Some s.reach) c.plateau-item.result =
+    subst (λ (x : Plateau). IsListedPlateau (trees_of s) (Some s.reach) x) (sym c.plateau-item.is) (c.requires.plateaus.each c.loop-plateau.plateau-index c.plateau-item.result c.loop-plateau-test.true) in
     record {
       same = subst (λ (x : Graph). HaveSameDist s.graph x) (sym c.loop-plateau.invariant.same) c.requires.same;
       bound = c.requires.bound;

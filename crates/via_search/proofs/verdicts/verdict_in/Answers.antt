@@ -10,7 +10,7 @@ pub returns-then-not-stretches-clause-verdict : goal.returns-then-not-stretches-
 returns-then-not-stretches-clause-verdict g c =
     let net = c.args.star.now in
     let q = c.args.query.now in
-    let posed = posed_of net q c.in_ok-optimum.field-0 c.in-Some.optimum c.graph-limits.ensures.limits c.requires.source c.in-Some.is c.in_ok-optimum.ensures.found c.in_ok-optimum.ensures.short in
+    let posed = posed_of net q c.in_ok-optimum.field-0 c.in-Some.optimum c.within_limits.ensures c.requires.source c.in-Some.is c.in_ok-optimum.ensures.found c.in_ok-optimum.ensures.short in
     let through = through_some net q.from q.to c.args.via c.in-Some-2.length c.in_ok-length.field-0 c.in_ok-length.ensures.length c.in-Some-2.is in
     record {
       optimum = c.in-Some.optimum.arcs;
@@ -20,7 +20,7 @@ returns-then-not-stretches-clause-verdict g c =
 
 pub returns-clause-verdict : goal.returns-clause-verdict
 returns-clause-verdict g c =
-    let posed = posed_of c.args.star.now c.args.query.now c.in_ok-optimum.field-0 c.in-Some.optimum c.graph-limits.ensures.limits c.requires.source c.in-Some.is c.in_ok-optimum.ensures.found c.in_ok-optimum.ensures.short in
+    let posed = posed_of c.args.star.now c.args.query.now c.in_ok-optimum.field-0 c.in-Some.optimum c.within_limits.ensures c.requires.source c.in-Some.is c.in_ok-optimum.ensures.found c.in_ok-optimum.ensures.short in
     record {
       optimum = c.in-Some.optimum.arcs;
       is_optimum = posed.best.0;

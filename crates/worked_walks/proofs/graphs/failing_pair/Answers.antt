@@ -2,4 +2,4 @@ use Rattle.forward_star.proofs.Bound.{dists_below}
 use Rattle.worked_walks.proofs.graphs.failing_pair.Goals as goal
 
 pub new-requires-clause-near : goal.new-requires-clause-near
-new-requires-clause-near c = dists_below _ c.graph-limits.ensures.limits
+new-requires-clause-near c = dists_below _ c.within_limits.ensures

@@ -6,7 +6,7 @@ use Rattle.road_text.specs.Reader.{held, IsLongLine, Steps}
 use Rattle.dimacs_reader.specs.declared.line.TheConstants.{MAX_LINE}
 use Rattle.dimacs_reader.specs.declared.fault.GraphFault.{GraphFault}
 use Rattle.dimacs_reader.specs.declared.fault.GraphKind.TheVariants.{FileLong}
-use Rattle.dimacs_reader.specs.Building.{Adds}
+use Rattle.dimacs_reader.specs.Building.{AddsLine}
 use Rattle.dimacs_reader.proofs.BuilderLemmas.{fault_at-is}
 use Rattle.dimacs_reader.proofs.ReadLemmas.{gathers_whole, faults_whole, gathers_last, faults_last, gathers_long, faults_long, gathers_long_last, faults_long_last, gathers_end, faults_over, cut_short}
 use Rattle.dimacs_reader.proofs.builder.Builder.gather.Goals as goal
@@ -18,25 +18,25 @@ at_answer old new text after a b e step = subst (λ (x : Advance). Steps old new
 pub returns-in-Ok-clause-gathered : goal.returns-in-Ok-clause-gathered
 returns-in-Ok-clause-gathered c = λ old text rest after limit g step.
     let now = at_answer old c.args.reader.now (held old ++ rest) after c.args.advance Whole c.in-Whole.is step in
-    let adds = subst (λ (l : List ℕ). Adds g.before l c.take.new.self (Ok c.in-Ok.field-0)) c.line.ensures (c.in-Ok.ensures.adds g.before g.after) in
+    let adds = subst (λ (l : List ℕ). AddsLine g.before l c.take.new.self (Ok c.in-Ok.field-0)) c.line.ensures (c.in-Ok.ensures.adds g.before g.after) in
     gathers_whole old c.args.reader.now text rest after c.args.self.now c.take.new.self _ g now adds
 
 pub returns-in-Err-clause-gathered : goal.returns-in-Err-clause-gathered
 returns-in-Err-clause-gathered c = λ old text rest after limit g step.
     let now = at_answer old c.args.reader.now (held old ++ rest) after c.args.advance Whole c.in-Whole.is step in
-    let adds = subst (λ (l : List ℕ). Adds g.before l c.take.new.self (Err c.in-Err.error)) c.line.ensures (c.in-Err.ensures.adds g.before g.after) in
+    let adds = subst (λ (l : List ℕ). AddsLine g.before l c.take.new.self (Err c.in-Err.error)) c.line.ensures (c.in-Err.ensures.adds g.before g.after) in
     faults_whole old c.args.reader.now text rest after c.args.self.now c.take.new.self c.in-Err.error g now adds
 
 pub returns-in-Ok-take-clause-gathered : goal.returns-in-Ok-take-clause-gathered
 returns-in-Ok-take-clause-gathered c = λ old text rest after limit g step.
     let now = at_answer old c.args.reader.now (held old ++ rest) after c.args.advance Last c.in-Last.is step in
-    let adds = subst (λ (l : List ℕ). Adds g.before l c.take-in-Last.new.self (Ok c.in-Ok-take.field-0)) c.line-in-Last.ensures (c.in-Ok-take.ensures.adds g.before g.after) in
+    let adds = subst (λ (l : List ℕ). AddsLine g.before l c.take-in-Last.new.self (Ok c.in-Ok-take.field-0)) c.line-in-Last.ensures (c.in-Ok-take.ensures.adds g.before g.after) in
     gathers_last old c.args.reader.now text rest after c.args.self.now c.take-in-Last.new.self _ g now adds
 
 pub returns-in-Err-take-clause-gathered : goal.returns-in-Err-take-clause-gathered
 returns-in-Err-take-clause-gathered c = λ old text rest after limit g step.
     let now = at_answer old c.args.reader.now (held old ++ rest) after c.args.advance Last c.in-Last.is step in
-    let adds = subst (λ (l : List ℕ). Adds g.before l c.take-in-Last.new.self (Err c.in-Err-take.error)) c.line-in-Last.ensures (c.in-Err-take.ensures.adds g.before g.after) in
+    let adds = subst (λ (l : List ℕ). AddsLine g.before l c.take-in-Last.new.self (Err c.in-Err-take.error)) c.line-in-Last.ensures (c.in-Err-take.ensures.adds g.before g.after) in
     faults_last old c.args.reader.now text rest after c.args.self.now c.take-in-Last.new.self c.in-Err-take.error g now adds
 
 pub returns-in-Ok-pass-clause-gathered : goal.returns-in-Ok-pass-clause-gathered

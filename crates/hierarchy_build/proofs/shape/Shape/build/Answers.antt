@@ -13,15 +13,13 @@ returns c =
     let g = c.args.star.now in
     let order : c.as_slice.result.now ≡ c.args.order.vertices = c.as_slice.ensures in
     let long : length c.as_slice.result.now ≡ c.args.star.now.vertices = ap (λ (l : List ℕ). length l) order ∙ c.requires.size in
-    let rows : c.arcs-arcs.result.now ≡ c.args.star.now.arcs = (c.arcs-arcs.ensures.rows ∙ ap (λ g. rows_of g) c.graph.ensures.same) in
     let ranked : IsRanked c.args.star.now.vertices c.args.order.vertices c.in_ok-rank.rank.items =
     subst (λ (n : ℕ). IsRanked n c.args.order.vertices c.in_ok-rank.rank.items) long
     (subst (λ (l : List ℕ). IsRanked (length c.as_slice.result.now) l c.in_ok-rank.rank.items) order c.in_ok-rank.ensures) in
     let due : All (IsDue 0 c.in_ok-rank.rank.items [] [] c.in_ok-pending.pending) (rows_of c.args.star.now) =
-    subst (λ (l : List ArcRow). All (IsDue 0 c.in_ok-rank.rank.items [] [] c.in_ok-pending.pending) l) rows
-    (subst (λ (r : List ℕ). All (IsDue 0 r [] [] c.in_ok-pending.pending) c.arcs-arcs.result.now) c.as_slice-3.ensures.value c.in_ok-pending.ensures.due) in
+    subst (λ (r : List ℕ). All (IsDue 0 r [] [] c.in_ok-pending.pending) (rows_of c.args.star.now)) c.as_slice-3.ensures.value c.in_ok-pending.ensures.due in
     let ranks : c.len.result ≡ c.args.star.now.vertices = c.len.ensures ∙ c.requires.size in
-    let arcs : All (IsArc c.args.star.now.vertices) (rows_of c.args.star.now) = c.graph.ensures.limits.is_graph in
+    let arcs : All (IsArc c.args.star.now.vertices) (rows_of c.args.star.now) = c.within_limits.ensures.is_graph in
     let whole = IsShapeOf-laid c.args.star.now c.args.order.vertices c.in_ok-rank.rank.items c.in_ok-first.field-0.first.items c.in_ok-first.field-0.head.items c.len.result c.in_ok-pending.pending c.in_ok-first.field-0.pending ranks ranked arcs c.in_ok-first.ensures.so_far due c.in_ok-first.ensures.waits in
     let Whole : List ℕ → List ℕ → List ℕ → Type 0 = λ rank first head. IsShapeOf c.args.star.now (record { order = c.args.order.vertices; rank = rank; first = first; head = head }) in
     subst (λ (l : List ℕ). Whole l c.from_vec-2.result c.from_vec-3.result) (sym c.from_vec.ensures)

@@ -5,8 +5,8 @@ use Rattle.hierarchy_query.proofs.least_hills.LeastHills.work_out.Given as goal
 
 abbrev pub invariant-back : goal.invariant-back
 invariant-back l = record {
-  hills : AreHills (length l.hierarchy.shape.value.order) l.hierarchy l.self;
-  working : WorkingOut l.hierarchy.shape.value.first l.hierarchy.shape.value.head l.self.least.items l.x l.from l.self.found.items l.place;
+  hills : AreHills (length l.hierarchy.shape.order) l.hierarchy l.self;
+  working : WorkingOut l.hierarchy.shape.first l.hierarchy.shape.head l.self.least.items l.x l.from l.self.found.items l.place;
   same : l.self.from ≡ l.fn.self.from;
 }
 

@@ -1,8 +1,8 @@
 use Rattle.std.proofs.Common.{◌≡◌, ◌<◌, ◌≤◌, ◌+◌, ◌*◌, ℕ, List, ◌∷◌, length, get_or, set, sum, arith, ap, sym, ◌∙◌, subst}
 use Rattle.std.specs.List.Sorted.{IsPermutation}
 use Rattle.std.proofs.lemmas.List.{get_or_default}
-use Rattle.label_setting.specs.Search.{IsListed, IsTracked}
-use Rattle.label_setting.proofs.Touches.{touched_with, IsTracked-touched, IsTracked-given, IsListed-given, work-given}
+use Rattle.label_setting.specs.Search.{IsTouchedList, IsTracked}
+use Rattle.label_setting.proofs.Touches.{touched_with, IsTracked-touched, IsTracked-given, IsTouchedList-given, work-given}
 use Rattle.label_setting.proofs.memory.SearchMemory.give.Goals as goal
 
 pub returns-in_err-push-clause-tracked : goal.returns-in_err-push-clause-tracked
@@ -45,6 +45,6 @@ returns-clause-listed c =
     let within : c.number-at.result < length labels = omega (arith, c.requires.inside) in
     let read : c.index.result.now ≡ get_or labels head 0 = c.index.ensures ∙ get_or_default labels c.number-at.result c.index.result.now 0 within ∙ ap (λ (i : ℕ). get_or labels i 0) at in
     let after : c.touch.new.touched.items ≡ touched_with (get_or labels head 0) head touched = c.in_ok-touch.ensures.ok ∙ ap (λ (k : ℕ). touched_with k head touched) read in
-    subst (λ (i : ℕ). IsListed c.args.goal.radius (set labels i c.args.distance) c.touch.new.touched.items) (sym at)
-    (subst (λ (l : List ℕ). IsListed c.args.goal.radius (set labels head c.args.distance) l) (sym after)
-    (IsListed-given c.args.goal.radius labels head c.args.distance touched c.requires.listed c.requires.inside c.requires.within))
+    subst (λ (i : ℕ). IsTouchedList c.args.goal.radius (set labels i c.args.distance) c.touch.new.touched.items) (sym at)
+    (subst (λ (l : List ℕ). IsTouchedList c.args.goal.radius (set labels head c.args.distance) l) (sym after)
+    (IsTouchedList-given c.args.goal.radius labels head c.args.distance touched c.requires.listed c.requires.inside c.requires.within))

@@ -18,10 +18,10 @@ returns-in-Took-clause-grows g c =
     let few : n ≤ length (between from (from + room) ys) = c.in-Took.ensures.reads.1 in
     let len : length piece ≡ n = length-take-le n (between from (from + room) ys) few in
     let high : from + room ≤ length ys = omega (arith, c.as_mut_slice.ensures.len, c.args.self.now.room, c.requires.room) in
-    let front : take from ys ≡ take from xs = c.read_into.ensures.front ∙ ap (λ (zs : List ℕ). take from zs) c.as_mut_slice.ensures.value in
+    let prefix : take from ys ≡ take from xs = c.read_into.ensures.prefix ∙ ap (λ (zs : List ℕ). take from zs) c.as_mut_slice.ensures.value in
     let within : n ≤ room = omega (arith, length-between ys from (from + room) high) in
     let stored = with_items_is c.args.self.now.buffer ys (omega (arith, c.as_mut_slice.ensures.len)) in
-    (piece, omega arith, ap (λ (zs : List ℕ). between c.args.self.now.start (from + n) zs) stored ∙ between-grown xs ys c.args.self.now.start from room n c.requires.front front within, omega arith)
+    (piece, omega arith, ap (λ (zs : List ℕ). between c.args.self.now.start (from + n) zs) stored ∙ between-grown xs ys c.args.self.now.start from room n c.requires.prefix prefix within, omega arith)
 
 pub returns-in-Took-clause-told : goal.returns-in-Took-clause-told
 returns-in-Took-clause-told g c =
@@ -33,8 +33,8 @@ returns-in-Took-clause-told g c =
     let piece : List ℕ = take n (between from (from + room) ys) in
     let few : n ≤ length (between from (from + room) ys) = c.in-Took.ensures.reads.1 in
     let high : from + room ≤ length ys = omega (arith, c.as_mut_slice.ensures.len, c.args.self.now.room, c.requires.room) in
-    let front : take from ys ≡ take from xs = c.read_into.ensures.front ∙ ap (λ (zs : List ℕ). take from zs) c.as_mut_slice.ensures.value in
+    let prefix : take from ys ≡ take from xs = c.read_into.ensures.prefix ∙ ap (λ (zs : List ℕ). take from zs) c.as_mut_slice.ensures.value in
     let within : n ≤ room = omega (arith, length-between ys from (from + room) high) in
     let stored = with_items_is c.args.self.now.buffer ys (omega (arith, c.as_mut_slice.ensures.len)) in
-    let grown = ap (λ (zs : List ℕ). between c.args.self.now.start (from + n) zs) stored ∙ between-grown xs ys c.args.self.now.start from room n c.requires.front front within in
+    let grown = ap (λ (zs : List ℕ). between c.args.self.now.start (from + n) zs) stored ∙ between-grown xs ys c.args.self.now.start from room n c.requires.prefix prefix within in
     IfTold_then _ _ _ _ (λ (before after : List ℕ) (e : before ≡ piece ++ after). text_same (between c.args.self.now.start from xs) _ piece before after grown e) c.in-Took.ensures.reads.2

@@ -35,8 +35,8 @@ returns-in-Some-clause-steps g c =
     let feed : IsFeedAt (held full) size = subst (λ (ys : List ℕ). IsFeedAt (between full.start full.end ys) size) c.deref-in-pieces.ensures.value c.in-Some.ensures in
     let later : c.first_of-first.result ≡ or_first c.pieces.first (first_byte (take size (held full))) = c.first_of-first.ensures ∙ ap (λ (ys : List ℕ). or_first c.pieces.first (first_byte (take size (between full.start full.end ys)))) c.deref-in-pieces.ensures.value in
     let within : full.start + (size + 1) ≤ full.end = (let h = feed.within in omega (arith, length-between full.buffer.items full.start full.end (omega (arith, full.buffer.ok.0, full.room, full.inside)))) in
-    let behind : between (full.start + (size + 1)) full.end full.buffer.items ≡ drop (size + 1) (held full) = between-drop full.buffer.items full.start full.end (size + 1) within in
-    IfTold_both _ _ _ _ _ _ (λ (x y z : List ℕ) (p : held old ++ x ≡ raw ++ y) (q : _). Steps-long_whole old mid full _ raw c.pieces.first c.first_of-first.result size passed so_far.empty feed later behind (record { count = (let h = so_far.taken.count in let k = c.fill.ensures.kept.budget_is in omega arith); longest = c.fill.ensures.kept.longest ∙ so_far.taken.longest }) x y z p q) so_far.told c.in-More.ensures.told
+    let beyond : between (full.start + (size + 1)) full.end full.buffer.items ≡ drop (size + 1) (held full) = between-drop full.buffer.items full.start full.end (size + 1) within in
+    IfTold_both _ _ _ _ _ _ (λ (x y z : List ℕ) (p : held old ++ x ≡ raw ++ y) (q : _). Steps-long_whole old mid full _ raw c.pieces.first c.first_of-first.result size passed so_far.empty feed later beyond (record { count = (let h = so_far.taken.count in let k = c.fill.ensures.kept.budget_is in omega arith); longest = c.fill.ensures.kept.longest ∙ so_far.taken.longest }) x y z p q) so_far.told c.in-More.ensures.told
 
 pub pieces-preserved : goal.pieces-preserved
 pieces-preserved g c =
