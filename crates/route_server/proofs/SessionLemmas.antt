@@ -36,7 +36,7 @@ use Rattle.desk_core.proofs.KeptLemmas.{desk_step, step_keeps, staged_keeps, pub
 use Rattle.desk_core.proofs.Passed.{passed_ok}
 use Rattle.line_front.specs.Replies.{HasItems}
 use Rattle.route_server.specs.Asking.{is_quit_request}
-use Rattle.route_server.specs.Sessions.{SessionState, state_of, versions_of, IsChange, IsChangeMade, IsSound}
+use Rattle.route_server.specs.Sessions.{SessionState, state_of, versions_of, IsChange, IsChangeMade, IsSoundSession}
 use Rattle.route_server.proofs.ChangeLemmas.{SameSize, after_all-size, change_fault-push, change_fault-size}
 
 -- ---- what a page shows
@@ -180,7 +180,7 @@ no_fault g v n staged same sound more =
     rw (change_fault-size g v staged same, sound) (let less : (n == 1048576) ≡ false = grind (arith, nat_tests) in rw less refl)
 
 -- staged changes without a fault make a version, unless memory is refused
-pub only_memory : (s : SessionState) (v : Graph) (n : ℕ) (staged : List Change) (given : ChangeFault) → IsSound s → v ≡ after_all s.base s.batches → n ≡ length s.batches + 1 → staged ≡ s.staged → newest (state_of s) ≢ last_version → IsRefusedAs (version_fault v n staged) given → given ≡ fault.NoMemory
+pub only_memory : (s : SessionState) (v : Graph) (n : ℕ) (staged : List Change) (given : ChangeFault) → IsSoundSession s → v ≡ after_all s.base s.batches → n ≡ length s.batches + 1 → staged ≡ s.staged → newest (state_of s) ≢ last_version → IsRefusedAs (version_fault v n staged) given → given ≡ fault.NoMemory
 only_memory s v n staged given sound g e h more (inl memory) = memory
 only_memory s v n staged given sound g e h more (inr other) =
     let none : version_fault (after_all s.base s.batches) (length s.batches + 1) s.staged ≡ None =
@@ -196,15 +196,15 @@ newest_graph g state =
 
 -- ---- what a session holds
 
-pub sound_start : (g : Graph) (batches : List (List Change)) (staged : List Change) (desk : DeskState) → batches ≡ [] → staged ≡ [] → desk ≡ empty_desk 8 → IsSound (record { base = g; batches = batches; staged = staged; desk = desk })
+pub sound_start : (g : Graph) (batches : List (List Change)) (staged : List Change) (desk : DeskState) → batches ≡ [] → staged ≡ [] → desk ≡ empty_desk 8 → IsSoundSession (record { base = g; batches = batches; staged = staged; desk = desk })
 sound_start g batches staged desk b s e =
     rw (b, s, e) (record { answers = All-nil (IsKeptAnswer g (at_start 0)); faultless = refl })
 
-pub sound_staged : (s : SessionState) (c : Change) (staged : List Change) → IsSound s → fault_of s.base c ≡ None → staged ≡ s.staged ++ c ∷ [] → IsSound (record { base = s.base; batches = s.batches; staged = staged; desk = s.desk })
+pub sound_staged : (s : SessionState) (c : Change) (staged : List Change) → IsSoundSession s → fault_of s.base c ≡ None → staged ≡ s.staged ++ c ∷ [] → IsSoundSession (record { base = s.base; batches = s.batches; staged = staged; desk = s.desk })
 sound_staged s c staged sound f e =
     rw e (record { answers = staged_keeps s.base (versions_of s) c s.desk sound.answers; faultless = change_fault-push s.base s.staged c sound.faultless f })
 
-pub sound_published : (s : SessionState) (base : Graph) (batches : List (List Change)) (staged : List Change) → IsSound s → base ≡ s.base → batches ≡ s.batches ++ s.staged ∷ [] → staged ≡ [] → IsSound (record { base = base; batches = batches; staged = staged; desk = s.desk })
+pub sound_published : (s : SessionState) (base : Graph) (batches : List (List Change)) (staged : List Change) → IsSoundSession s → base ≡ s.base → batches ≡ s.batches ++ s.staged ∷ [] → staged ≡ [] → IsSoundSession (record { base = base; batches = batches; staged = staged; desk = s.desk })
 sound_published s base batches staged sound b h e =
     rw (b, h, e) (record { answers = published_keeps s.base (versions_of s) s.desk sound.answers; faultless = refl })
 
@@ -215,10 +215,10 @@ here s v number next request r shown g n step =
     subst (λ (h : Graph). IsDeskStep (newest (versions_of s)) h s.desk request r shown next) (g ∙ sym (newest_graph s.base (versions_of s)))
     (subst (λ (k : ℕ). IsDeskStep k v s.desk request r shown next) n step)
 
-pub desk_steps : (s : SessionState) (v : Graph) (number : ℕ) (next : DeskState) (request : Request) (r : Reply) (shown : Option Plan) → IsSound s → v ≡ after_all s.base s.batches → number ≡ length s.batches + 1 → IsDeskStep number v s.desk request r shown next → IsStep s.base (state_of s) request r shown (with_desk (versions_of s) next)
+pub desk_steps : (s : SessionState) (v : Graph) (number : ℕ) (next : DeskState) (request : Request) (r : Reply) (shown : Option Plan) → IsSoundSession s → v ≡ after_all s.base s.batches → number ≡ length s.batches + 1 → IsDeskStep number v s.desk request r shown next → IsStep s.base (state_of s) request r shown (with_desk (versions_of s) next)
 desk_steps s v number next request r shown sound g n step =
     desk_step s.base (versions_of s) s.desk next request r shown sound.answers (here s v number next request r shown g n step)
 
-pub sound_answered : (s : SessionState) (v : Graph) (number : ℕ) (next : DeskState) (request : Request) (r : Reply) (shown : Option Plan) → IsSound s → v ≡ after_all s.base s.batches → number ≡ length s.batches + 1 → IsDeskStep number v s.desk request r shown next → IsSound (record { base = s.base; batches = s.batches; staged = s.staged; desk = next })
+pub sound_answered : (s : SessionState) (v : Graph) (number : ℕ) (next : DeskState) (request : Request) (r : Reply) (shown : Option Plan) → IsSoundSession s → v ≡ after_all s.base s.batches → number ≡ length s.batches + 1 → IsDeskStep number v s.desk request r shown next → IsSoundSession (record { base = s.base; batches = s.batches; staged = s.staged; desk = next })
 sound_answered s v number next request r shown sound g n step =
     record { answers = step_keeps s.base (versions_of s) s.desk next request r shown sound.answers (here s v number next request r shown g n step); faultless = sound.faultless }

@@ -6,8 +6,9 @@
 --   state_of s      the state of a run that it is in
 --   last_plan s     the plan that was used last, which a page is of
 --   IsChange r      the request is for a change: a new length of an arc, or a new version
---   IsSound s       each kept plan is the answer of its key, and no staged change has a fault
---   IsChangeMade g state asked reply shown next   a change was made, which is replied; or memory was refused, and the state stays
+--   IsSoundSession s   each kept plan is the answer of its key, and no staged change has a fault
+--   IsChangeMade g state asked reply shown next   a change was made, which is replied; or memory was refused, and the
+--                   state stays
 --   refusal_of f    what is replied where a new version is refused
 use Rattle.std.specs.Prelude.{◌≡◌, ◌⊎◌, List, [], Option, None}
 use Rattle.road_model.specs.declared.answer.Plan.{Plan}
@@ -51,7 +52,7 @@ IsChange (the.Length arc length) = Unit {0}
 IsChange the.Publish = Unit {0}
 IsChange r = ⊥
 
-pub record IsSound (s : SessionState) : Type 0 where
+pub record IsSoundSession (s : SessionState) : Type 0 where
   pub answers : AreAnswers s.base (versions_of s) s.desk
   pub faultless : change_fault s.base s.staged ≡ None
 

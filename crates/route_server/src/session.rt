@@ -33,13 +33,13 @@ pub struct Session<V: Version> {
 }
 
 impl<V: Version> Model for Session<V> {
-    ghost use Rattle.route_server.specs.Sessions.{IsSound, SessionState};
+    ghost use Rattle.route_server.specs.Sessions.{IsSoundSession, SessionState};
 
     ghost Value = { SessionState };
 
     ghost view = { λ s. record { base = V.base s.newest; batches = V.history s.newest; staged = s.staged; desk = s.desk } };
 
-    ghost invariant = { λ s. IsSound (record { base = V.base s.newest; batches = V.history s.newest; staged = s.staged; desk = s.desk }) };
+    ghost invariant = { λ s. IsSoundSession (record { base = V.base s.newest; batches = V.history s.newest; staged = s.staged; desk = s.desk }) };
 }
 
 /// What is replied where a new version is refused.

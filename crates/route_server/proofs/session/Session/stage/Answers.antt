@@ -8,8 +8,8 @@ use Rattle.route_server.proofs.session.Session.stage.Goals.{in-Ok, in-Err}
 pub invariant_of-self : goal.invariant_of-self
 invariant_of-self g c =
     elim c.match-push.branch [
-      in-Ok w ↦ sound_staged _ c.args.change c.push.new.self c.self.invariant
-      (subst (λ (s : SessionState). fault_of s.base c.args.change ≡ None) (sym c.self.view_is) c.requires)
-      w.in-Ok.ensures.ok
+      | in-Ok w ↦ sound_staged _ c.args.change c.push.new.self c.self.invariant
+          (subst (λ (s : SessionState). fault_of s.base c.args.change ≡ None) (sym c.self.view_is) c.requires)
+          w.in-Ok.ensures.ok
       | in-Err w ↦ rw w.in-Err.ensures.err c.self.invariant
     ]
