@@ -143,7 +143,7 @@ fn odd_lines(rt: HostRuntime) -> Result<(), Fail> {
             b"route 1 6 since 00000000000000000001\nversion\n",
             b"error syntax\nversion 1\n",
         ),
-        (b"length 4 7\npublish\n", b"error syntax\nerror syntax\n"),
+        (b" length\t04 7\r\npublish", b"staged 1\npublished 2\n"),
         (
             b"next 1.1.6\nnext\nnext a b\n",
             b"error cursor\nerror syntax\nerror syntax\n",

@@ -63,8 +63,19 @@ of_file : (file : Option (List ℕ)) (g : Graph) (text rest out now : List ℕ) 
 of_file None g text rest out now status l h = absurd l
 of_file (Some bytes) g text rest out now status l h = of_graph (gr_text bytes) g text rest out now status l h
 
-pub answers_loaded : (shelf a b c d : Option Told) (name : List ℕ) (g : Graph) (status : Status) → IfSome shelf (λ told. Loads (told.files name) (Ok g)) → IfTold a b (λ text rest. IfTold c d (λ out now. Stops g text rest out now status)) → IfSome shelf (λ told. IfTold a b (λ text rest. IfTold c d (λ out now. AnswersFile (told.files name) text rest out now status)))
-answers_loaded None a b c d name g status l h = tt
-answers_loaded (Some told) a b c d name g status l h =
-    IfTold_then a b _ _ (λ (text rest : List ℕ) (k : IfTold c d (λ out now. Stops g text rest out now status)).
-    IfTold_then c d _ _ (λ (out now : List ℕ) (s : Stops g text rest out now status). of_file (told.files name) g text rest out now status l s) k) h
+pub answers_loaded : (shelf a b c d : Option Told) (name : List ℕ) (file base : Graph) (status : Status) → base ≡ file → IfSome shelf (λ told. Loads (told.files name) (Ok file)) → IfTold a b (λ text rest. IfTold c d (λ out now. Stops base text rest out now status)) → IfSome shelf (λ told. IfTold a b (λ text rest. IfTold c d (λ out now. AnswersFile (told.files name) text rest out now status)))
+answers_loaded None a b c d name file base status e l h = tt
+answers_loaded (Some told) a b c d name file base status e l h =
+    IfTold_then a b _ _ (λ (text rest : List ℕ) (k : IfTold c d (λ out now. Stops base text rest out now status)).
+    IfTold_then c d _ _ (λ (out now : List ℕ) (s : Stops base text rest out now status).
+    of_file (told.files name) file text rest out now status l (subst (λ (g : Graph). Stops g text rest out now status) e s)) k) h
+
+-- a graph that was read, and no version of it could be made
+no_version : (file : Option (List ℕ)) (g : Graph) (text out : List ℕ) → Loads file (Ok g) → AnswersFile file text text out out the.NoMemory
+no_version None g text out l = absurd l
+no_version (Some bytes) g text out l = starved_unread (gr_text bytes) text out
+
+pub answers_no_version : (shelf a c : Option Told) (name : List ℕ) (g : Graph) → IfSome shelf (λ told. Loads (told.files name) (Ok g)) → IfSome shelf (λ told. IfTold a a (λ text rest. IfTold c c (λ out now. AnswersFile (told.files name) text rest out now the.NoMemory)))
+answers_no_version None a c name g l = tt
+answers_no_version (Some told) a c name g l =
+    told_same a _ (λ (text : List ℕ). told_same c _ (λ (out : List ℕ). no_version (told.files name) g text out l))

@@ -1,57 +1,26 @@
 -- What the steps of a reader of lines make of the lines of an input.
-use Rattle.std.proofs.Common.{◌≡◌, ℕ, ◌<◌, true, false, Bool, cond, ltb, List, [], ◌∷◌, ◌++◌, length, Option, Some, None, sym, ap, subst, arith}
+use Rattle.std.proofs.Common.{◌≡◌, ℕ, ◌<◌, true, false, Bool, cond, ltb, List, ◌++◌, length, Option, sym, ap, arith}
 use Rattle.std.proofs.lemmas.Bool.Decides.{nat_tests}
 use Rattle.road_text.specs.declared.line_reader.LineReader.{LineReader}
 use Rattle.road_text.specs.declared.line_reader.Advance.TheVariants as advance
 use Rattle.road_text.specs.Reader.{held, line_of, Steps, IsLongLine}
 use Rattle.road_text.proofs.BeyondLemmas.{beyond_whole, beyond_long, read_last, read_long, read_end, over_spent, broken_failed}
 use Rattle.road_model.specs.declared.request.ErrorKind.TheVariants.{Long}
-use Rattle.road_model.specs.declared.request.Request.{Request}
-use Rattle.road_model.specs.declared.request.Request.TheVariants as request
 use Rattle.line_front.specs.declared.requests.Parsed.{Parsed}
 use Rattle.line_front.specs.declared.requests.Parsed.TheVariants as parsed
 use Rattle.line_front.specs.declared.requests.Role.TheVariants as role
-use Rattle.line_front.specs.Requests.{by_fields, for_role, parsed_of, request_of}
+use Rattle.line_front.specs.Requests.{by_fields, parsed_of}
 use Rattle.road_text.specs.Fields.{fields_of}
 use Rattle.route_server.specs.declared.input.NextLine.TheVariants as the
 use Rattle.route_server.specs.Asking.{asked_by, most_input}
 use Rattle.route_server.specs.Input.{Goes}
-use Rattle.route_server.specs.Desks.{IsReadersLine}
 
 long_test : (n m : ℕ) → m < n → ltb m n ≡ true
 long_test n m h = grind (arith, nat_tests)
 
 asked_long : (line : List ℕ) → 1024 < length line → asked_by line ≡ parsed.Error Long
 unfolding parsed_of
-asked_long line h = ap (λ (b : Bool). cond {A = Parsed} b (parsed.Error Long) (by_fields role.Reader (fields_of line))) (long_test (length line) 1024 h)
-
--- a line of one who only reads asks for no change
-for_reader : (o : Option Request) → IsReadersLine (for_role role.Reader o)
-for_reader None = tt
-for_reader (Some (request.Best from to)) = tt
-for_reader (Some (request.Route query size since)) = tt
-for_reader (Some (request.Next cursor)) = tt
-for_reader (Some request.BadCursor) = tt
-for_reader (Some (request.Why query via since)) = tt
-for_reader (Some request.Version) = tt
-for_reader (Some (request.Length arc length)) = tt
-for_reader (Some request.Publish) = tt
-for_reader (Some request.Quit) = tt
-
-fields_reader : (fields : List (List ℕ)) → IsReadersLine (by_fields role.Reader fields)
-fields_reader [] = tt
-fields_reader (word ∷ fields) = for_reader (request_of word fields)
-
-either : (b : Bool) (x y : Parsed) → IsReadersLine x → IsReadersLine y → IsReadersLine (cond b x y)
-either true x y h k = h
-either false x y h k = k
-
-reader_line : (line : List ℕ) → IsReadersLine (asked_by line)
-unfolding parsed_of
-reader_line line = either (ltb 1024 (length line)) (parsed.Error Long) (by_fields role.Reader (fields_of line)) tt (fields_reader (fields_of line))
-
-pub reader_asked : (line : List ℕ) (asked : Parsed) → asked ≡ asked_by line → IsReadersLine asked
-reader_asked line asked e = subst IsReadersLine (sym e) (reader_line line)
+asked_long line h = ap (λ (b : Bool). cond {A = Parsed} b (parsed.Error Long) (by_fields role.Both (fields_of line))) (long_test (length line) 1024 h)
 
 pub go_whole : (old new : LineReader) (asked : Parsed) → asked ≡ asked_by (line_of new) → (rest after : List ℕ) → Steps old new (held old ++ rest) after advance.Whole → Goes old new rest after (the.More asked)
 go_whole old new asked e rest after step text before at' =

@@ -3,7 +3,8 @@ pub mod AskingLemmas
 pub mod InputLemmas
 pub mod ServingLemmas
 pub mod AnsweringLemmas
-pub mod ReplyLemmas
+pub mod ChangeLemmas
+pub mod SessionLemmas
 pub mod SendingLemmas
 pub mod ReadingLemmas
 pub mod CauseLemmas

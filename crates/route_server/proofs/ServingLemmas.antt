@@ -132,12 +132,12 @@ nothing_written g out = record {
   is = sym (append-nil out);
 }
 
-pub runs_start : (g : Graph) (reader : LineReader) (a c : Option Told) → IsFreshReader reader 1024 most_input → Runs g opening reader a a c c
-runs_start g reader a c fresh =
+pub runs_start : (g : Graph) (state : State) (reader : LineReader) (a c : Option Told) → state ≡ opening → IsFreshReader reader 1024 most_input → Runs g state reader a a c c
+runs_start g state reader a c start fresh =
     told_same a _ (λ (text : List ℕ). told_same c _ (λ (out : List ℕ). record {
       before = [];
       at_line = IsBeyond-fresh reader 1024 most_input text fresh;
-      written = nothing_written g out;
+      written = subst (λ (s : State). Written g [] out out s) (sym start) (nothing_written g out);
       unquit = tt;
     }))
 

@@ -1,7 +1,7 @@
 -- What the lines of an input ask.
 --   most_input       the most bytes of requests that a run reads
 --   lines_within t   the lines of a text, where it has no more bytes; else those that end among so many bytes
---   asked_by line    what a line asks of one who reads
+--   asked_by line    what a line asks, of one who may both read and publish
 --   is_quit_request r   the request ends the run
 --   is_quit line     the line ends the run
 --   asked_in lines   what the lines before the first such line ask, in their order
@@ -23,7 +23,7 @@ abbrev pub lines_within : List ℕ → List (List ℕ)
 lines_within text = if nat_le (length text) most_input then lines_of text else whole_lines (take most_input text)
 
 abbrev pub asked_by : List ℕ → Parsed
-asked_by line = parsed_of role.Reader line
+asked_by line = parsed_of role.Both line
 
 abbrev pub is_quit_request : Request → Bool
 is_quit_request request.Quit = true

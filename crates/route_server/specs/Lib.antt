@@ -9,5 +9,6 @@ pub mod Statuses
 pub mod Loading
 pub mod Answering
 pub mod Buffers
-pub mod Desks
+pub mod Sessions
+pub mod Saying
 pub mod Causes

@@ -1,6 +1,6 @@
--- What loading a graph file answers, by the contents that the shelf has under its name.
+-- What reading a graph file answers, by the contents that the shelf has under its name.
 --   Loads None r            there is no such file: a read fault
---   Loads (Some bytes) r    the star of the graph that the bytes give, or their first fault; or else a read failed, or
+--   Loads (Some bytes) r    the graph that the bytes give, or their first fault; or else a read failed, or
 --                           memory was refused
 --   ends_as e               how a run ends that met this error
 use Rattle.std.specs.Prelude.{◌≡◌, ℕ, List, Option, Some, None, Result, Ok, Err}

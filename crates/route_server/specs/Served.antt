@@ -5,8 +5,10 @@
 --   IsQuit         the line ends the run, and nothing was written
 --   Serves         Written: its reply stands there; Quit: it ends the run; WriteFault: a prefix of its reply stands
 --                  there; NoMemory: nothing was written
---   SendsReply          the same of the write of a reply, which ends no run
-use Rattle.std.specs.Prelude.{◌≡◌, ℕ, true, false, List, ◌++◌}
+--   SendsReply     the same of the write of a reply, which ends no run
+use Rattle.std.specs.Prelude.{◌≡◌, ℕ, true, false, List, ◌++◌, Option}
+use Rattle.road_model.specs.declared.answer.Plan.{Plan}
+use Rattle.road_model.specs.declared.request.Reply.{Reply}
 use Rattle.road_model.specs.Graph.{Graph}
 use Rattle.desk_core.specs.States.{State}
 use Rattle.line_front.specs.declared.requests.Parsed.{Parsed}
@@ -14,7 +16,6 @@ use Rattle.route_server.specs.declared.serve.Served.{Served}
 use Rattle.route_server.specs.declared.serve.Served.TheVariants as the
 use Rattle.line_front.specs.Replies.{reply_text}
 use Rattle.road_io.specs.Sink.{WritesPrefix}
-use Rattle.route_server.specs.declared.answering.Answer.{Answer}
 use Rattle.route_server.specs.Asking.{is_quit}
 use Rattle.route_server.specs.Serving.{IsReply}
 
@@ -45,8 +46,8 @@ Serves g state asked out now next the.WriteFault = IsServedPrefix g state asked 
 Serves g state asked out now next the.NoMemory = now ≡ out
 
 -- how the write of a reply ends
-abbrev pub SendsReply : Answer → List ℕ → List ℕ → Served → Type 0
-SendsReply answer out now the.Written = now ≡ out ++ reply_text answer.reply answer.shown
-SendsReply answer out now the.Quit = ⊥
-SendsReply answer out now the.WriteFault = WritesPrefix (reply_text answer.reply answer.shown) out now
-SendsReply answer out now the.NoMemory = now ≡ out
+abbrev pub SendsReply : Reply → Option Plan → List ℕ → List ℕ → Served → Type 0
+SendsReply reply shown out now the.Written = now ≡ out ++ reply_text reply shown
+SendsReply reply shown out now the.Quit = ⊥
+SendsReply reply shown out now the.WriteFault = WritesPrefix (reply_text reply shown) out now
+SendsReply reply shown out now the.NoMemory = now ≡ out

@@ -1,6 +1,6 @@
 -- What a run over request lines writes.
---   opening                    the state that a run begins with: nothing is published or staged, and no answer is kept
---   limits_of g                what requests are tested against in it
+--   opening                    the state that a run begins with: nothing is published or staged, and no answer is kept;
+--                              there is room for eight
 --   IsRequestReply ..          the bytes are the lines of a reply to the request, which is a step from the state
 --   IsReply g state asked bytes next   the bytes that one line gets, and the state after it: none for a line that says
 --                              nothing, else the lines of a reply
@@ -20,17 +20,16 @@
 --     NoMemory    the replies to some of its first lines, which end among so many bytes
 --   IsDone, IsCut, IsOverlong, IsUnwritten, IsStarved   what that says of Done, ReadFault, InputLong, WriteFault and
 --                              NoMemory
-use Rattle.std.specs.Prelude.{◌≡◌, ◌<◌, ◌≤◌, ◌⊎◌, ℕ, false, List, [], ◌∷◌, ◌++◌, Option, None, length, take}
+use Rattle.std.specs.Prelude.{◌≡◌, ◌<◌, ◌≤◌, ◌⊎◌, ℕ, List, [], ◌∷◌, ◌++◌, Option, None, length, take}
 use Rattle.road_model.specs.declared.answer.Plan.{Plan}
 use Rattle.road_model.specs.declared.request.Reply.{Reply}
 use Rattle.road_model.specs.declared.request.Reply.TheVariants as reply
 use Rattle.road_model.specs.declared.request.Request.{Request}
-use Rattle.road_model.specs.Graph.{Graph, arc_count}
+use Rattle.road_model.specs.Graph.{Graph}
 use Rattle.road_text.specs.Lines.{whole_lines}
 use Rattle.line_front.specs.declared.requests.Parsed.{Parsed}
 use Rattle.line_front.specs.declared.requests.Parsed.TheVariants as parsed
 use Rattle.line_front.specs.Replies.{reply_text}
-use Rattle.desk_core.specs.declared.refusals.Limits.{Limits}
 use Rattle.desk_core.specs.States.{State, at_start}
 use Rattle.desk_core.specs.Replies.{IsStep}
 use Rattle.desk_core.specs.Runs.{Turn, IsRun}
@@ -39,10 +38,7 @@ use Rattle.route_server.specs.declared.status.Status.TheVariants.{Done, Usage, G
 use Rattle.route_server.specs.Asking.{asked_in, lines_within, most_input, NoQuit}
 
 abbrev pub opening : State
-opening = at_start 0
-
-abbrev pub limits_of : Graph → Limits
-limits_of g = record { vertices = g.vertices; arcs = arc_count g; number = 1; kept = false }
+opening = at_start 8
 
 pub record IsRequestReply (g : Graph) (state : State) (request : Request) (bytes : List ℕ) (next : State) : Type 0 where
   pub reply : Reply

@@ -8,13 +8,14 @@ ghost use Rattle.dimacs_reader.specs.declared.fault.GraphFault.{GraphFault};
 ghost use Rattle.route_server.specs.Answering.{AnswersFile};
 ghost use Rattle.route_server.specs.Causes.{HasFault, IsAccepted, IsLong, IsRefusal, IsUnjudged, IsWhole};
 
-use crate::load::{ends_as, load};
+use crate::load::{ends_as, read_named};
 use crate::serve::serve;
 use crate::status::Status;
 use road_io::{Shelf, Sink, Source};
+use route_engine::Prepared;
 use std::alloc::Global;
 
-/// Answers the request lines of the input over the named graph file.
+/// Answers the request lines of the input over the named graph file, and publishes the changes of lengths among them.
 pub fn answer<F: Shelf, S: Source, K: Sink>(
     alloc: Global,
     name: &str,
@@ -51,8 +52,12 @@ pub fn answer<F: Shelf, S: Source, K: Sink>(
     ensures input_count { S.faults input.old ≤ S.faults input.new }
     ensures output_count { K.faults output.old ≤ K.faults output.new }
 {
-    match load(alloc, name, shelf) {
-        Ok(star) => serve(alloc, &star, input, output),
-        Err(error) => ends_as(error),
+    let graph = match read_named(alloc, name, shelf) {
+        Ok(graph) => graph,
+        Err(error) => return ends_as(error),
+    };
+    match Prepared::from_file(alloc, graph) {
+        Ok(version) => serve(alloc, version, input, output),
+        Err(_) => Status::NoMemory,
     }
 }

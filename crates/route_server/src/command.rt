@@ -26,10 +26,11 @@ use std::thread::Threads;
 /// from the input, and writes to the output.
 ///
 /// `check` and `print` take 16 bytes an arc, and 128 KB while they read; `make` takes 16 bytes an arc of its grid.
-/// `answer` and `survey` take 40 bytes an arc and 128 bytes a vertex: 8 for the graph, and 120 for searches and plans,
-/// which are kept from one query to the next with what the largest searches so far needed. Besides, `answer` keeps
-/// 128 KB for lines, the longest reply, and once distances were asked often enough a hierarchy in place of 8 of the
-/// 120 bytes.
+/// `survey` takes 40 bytes an arc and 128 bytes a vertex: 8 for the graph, and 120 for searches and plans, which are
+/// kept from one query to the next with what the largest searches so far needed. `answer` keeps as much for searches
+/// and plans, and the newest version of the graph (`route_engine::Prepared`), beside the next one while a change is
+/// published. Besides, it keeps 128 KB for lines, the plans of the last eight queries that a page was asked of, and the
+/// longest reply.
 pub fn run<R: Threads + Sync, F: Shelf, S: Source, K: Sink>(
     _rt: &R,
     alloc: Global,

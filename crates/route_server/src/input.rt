@@ -5,7 +5,6 @@ ghost use Rattle.road_io.specs.Told.{IfTold};
 ghost use Rattle.road_io.specs.Count.{HasRisen};
 ghost use Rattle.road_text.specs.Reader.{held, budget};
 ghost use Rattle.route_server.specs.Input.{IsMore, Goes};
-ghost use Rattle.route_server.specs.Desks.{IsReadersNext};
 
 use line_front::{MAX_LINE, Parsed, Role, read_request};
 use road_io::Source;
@@ -32,7 +31,6 @@ pub fn next_line<S: Source>(reader: &mut LineReader, input: &mut S) -> NextLine
     requires { reader.old.longest ≡ 1024 }
     ensures goes { IfTold (S.left input.old) (S.left input.new)
         (λ rest after. Goes reader.old reader.new rest after result) }
-    ensures reader { IsReadersNext result }
     ensures falls { IsMore result → budget reader.new < budget reader.old }
     ensures longest { reader.new.longest ≡ 1024 }
     ensures count { S.faults input.old ≤ S.faults input.new }
@@ -40,8 +38,8 @@ pub fn next_line<S: Source>(reader: &mut LineReader, input: &mut S) -> NextLine
     ensures quiet { result ≢ NextLine.Failed → S.faults input.new ≡ S.faults input.old }
 {
     match reader.advance(input) {
-        Advance::Whole => NextLine::More(read_request(reader.line(), Role::Reader)),
-        Advance::Last => NextLine::Last(read_request(reader.line(), Role::Reader)),
+        Advance::Whole => NextLine::More(read_request(reader.line(), Role::Both)),
+        Advance::Last => NextLine::Last(read_request(reader.line(), Role::Both)),
         Advance::Long { whole: true, .. } => NextLine::More(Parsed::Error(ErrorKind::Long)),
         Advance::Long { whole: false, .. } => NextLine::Last(Parsed::Error(ErrorKind::Long)),
         Advance::End => NextLine::End,

@@ -10,6 +10,7 @@ mod grids;
 mod input;
 mod load;
 mod serve;
+mod session;
 mod status;
 mod words;
 

@@ -8,7 +8,6 @@ ghost use Rattle.route_server.specs.Causes.{IsUnjudged};
 
 use crate::status::Status;
 use dimacs_reader::{GraphError, read_graph};
-use forward_star::Star;
 use road_io::{Picked, Shelf};
 use road_model::GraphFile;
 use std::alloc::Global;
@@ -30,27 +29,6 @@ pub fn read_named<F: Shelf>(
     match shelf.pick(name) {
         Picked::Ready => read_graph(alloc, shelf),
         Picked::Failed => Err(GraphError::ReadFault),
-    }
-}
-
-/// Reads the named graph file, and lays it out for searches. It takes 40 bytes an arc and 8 a vertex, and 128 KB while
-/// it reads.
-pub fn load<F: Shelf>(alloc: Global, name: &str, shelf: &mut F) -> Result<Star, GraphError>
-    ensures loads { IfSome (F.left shelf.old) (λ told. Loads (told.files name.now) result) }
-    ensures count { F.faults shelf.old ≤ F.faults shelf.new }
-    ensures cause { result ≡ Err GraphError.ReadFault → HasRisen (F.faults shelf.old) (F.faults shelf.new) }
-    ensures quiet { result ≢ Err GraphError.ReadFault → F.faults shelf.new ≡ F.faults shelf.old }
-    ensures first_fault { result ≡ Err GraphError.ReadFault → IfSome (F.left shelf.old) (λ told.
-        IsUnjudged told name.now (F.left shelf.new)) }
-    ensures named { F.picked shelf.new ≡ with_name name.now (F.picked shelf.old) }
-{
-    let graph = match read_named(alloc, name, shelf) {
-        Ok(graph) => graph,
-        Err(error) => return Err(error),
-    };
-    match Star::build(alloc, graph) {
-        Ok(star) => Ok(star),
-        Err(_) => Err(GraphError::NoMemory),
     }
 }
 

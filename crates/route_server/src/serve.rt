@@ -1,28 +1,25 @@
 //! The loop over request lines.
 
-ghost use Rattle.std.specs.Prelude.{◌≡◌, ◌≢◌, ◌≤◌, false};
+ghost use Rattle.std.specs.Prelude.{◌≡◌, ◌≢◌, ◌≤◌, [], false, option_copied};
 ghost use Rattle.road_io.specs.Told.{IfTold};
 ghost use Rattle.road_io.specs.Count.{HasRisen};
-ghost use Rattle.road_model.specs.Dist.{HaveSameDist};
 ghost use Rattle.line_front.specs.Replies.{HasItems};
-ghost use Rattle.route_server.specs.Desks.{IsReadersLine};
-ghost use Rattle.route_server.specs.Serving.{Stops, opening};
+ghost use Rattle.route_server.specs.Serving.{Stops};
 ghost use Rattle.route_server.specs.Served.{Serves, SendsReply};
+ghost use Rattle.route_server.specs.Sessions.{state_of};
 ghost use Rattle.route_server.specs.Asking.{is_quit};
 ghost use Rattle.route_server.specs.Causes.{IsLong, IsRefusal, IsWhole};
 
-use crate::answering::{Answer, Said, say};
+use crate::answering::{Said, say};
 use crate::gathered::Gathered;
 use crate::input::{NextLine, next_line};
+use crate::session::Session;
 use crate::status::Status;
-use forward_star::Star;
-use hierarchy_query::AdaptiveOracle;
 use line_front::{MAX_LINE, Parsed, write_reply};
 use road_io::{Put, Sink, Source};
-use road_model::Oracle;
+use road_model::{Plan, Reply, Version};
 use road_text::LineReader;
 use std::alloc::Global;
-use via_search::PlanMemory;
 
 /// The most bytes of input.
 const MAX_INPUT: u64 = 4294967296;
@@ -38,16 +35,21 @@ pub enum Served {
 }
 
 /// Writes a reply in one piece. `gathered` is the buffer that it is put together in.
-fn send<K: Sink>(answer: &Answer, gathered: &mut Gathered, output: &mut K) -> Served
-    requires items { HasItems answer.now.reply answer.now.shown }
+fn send<K: Sink>(
+    reply: &Reply,
+    shown: Option<&Plan>,
+    gathered: &mut Gathered,
+    output: &mut K,
+) -> Served
+    requires items { HasItems reply.now (option_copied shown) }
     ensures sends { IfTold (K.written output.old) (K.written output.new)
-        (λ out now. SendsReply answer.now out now result) }
+        (λ out now. SendsReply reply.now (option_copied shown.entry) out now result) }
     ensures count { K.faults output.old ≤ K.faults output.new }
     ensures cause { result ≡ Served.WriteFault → HasRisen (K.faults output.old) (K.faults output.new) }
     ensures quiet { result ≢ Served.WriteFault → K.faults output.new ≡ K.faults output.old }
 {
     gathered.clear();
-    match write_reply(gathered, &answer.reply, answer.shown.as_ref()) {
+    match write_reply(gathered, reply, shown) {
         Put::Done => match output.write(gathered.bytes()) {
             Put::Done => Served::Written,
             Put::Failed => Served::WriteFault,
@@ -57,46 +59,43 @@ fn send<K: Sink>(answer: &Answer, gathered: &mut Gathered, output: &mut K) -> Se
 }
 
 /// Answers one line.
-fn serve_one<O: Oracle, K: Sink>(
+fn serve_one<V: Version + Drop, K: Sink>(
     alloc: Global,
-    memory: &mut PlanMemory,
-    star: &Star,
-    oracle: &mut O,
+    session: &mut Session<V>,
     asked: &Parsed,
     gathered: &mut Gathered,
     output: &mut K,
 ) -> Served
-    requires reader { IsReadersLine asked.now }
-    requires same { HaveSameDist star.now (O.graph oracle.old) }
     ensures serves { IfTold (K.written output.old) (K.written output.new)
-        (λ out now. Serves star.now opening asked.now out now opening result) }
-    ensures same { O.graph oracle.new ≡ O.graph oracle.old }
+        (λ out now. Serves session.old.base (state_of session.old) asked.now out now (state_of session.new) result) }
+    ensures base { session.new.base ≡ session.old.base }
     ensures count { K.faults output.old ≤ K.faults output.new }
     ensures cause { result ≡ Served.WriteFault → HasRisen (K.faults output.old) (K.faults output.new) }
     ensures quiet { result ≢ Served.WriteFault → K.faults output.new ≡ K.faults output.old }
     ensures unquit { result ≡ Served.Written → is_quit asked.now ≡ false }
 {
-    match say(alloc, memory, star, oracle, asked) {
+    match say(alloc, session, asked) {
         Said::Nothing => Served::Written,
         Said::Quit => Served::Quit,
-        Said::Answered(answer) => send(&answer, gathered, output),
+        Said::Answered(reply) => send(&reply, session.shown(), gathered, output),
     }
 }
 
-/// Answers the lines of the input until one ends the run, or the input ends or is too long, or a read or a write fails,
-/// or there is no memory to begin with or for the text of a reply.
+/// Answers the lines of the input, over the newest version, until one ends the run, or the input ends or is too long,
+/// or a read or a write fails, or there is no memory to begin with or for the text of a reply.
 ///
-/// It keeps 128 KB for lines, 120 bytes a vertex for searches and plans, the longest reply, and once distances were
-/// asked often enough a hierarchy in place of 8 of the 120 bytes (`AdaptiveOracle`).
-pub fn serve<S: Source, K: Sink>(
+/// It keeps 128 KB for lines, the memory of searches (`Planner::Work`), the plans of the last eight queries, and the
+/// longest reply.
+pub fn serve<V: Version + Drop, S: Source, K: Sink>(
     alloc: Global,
-    star: &Star,
+    version: V,
     input: &mut S,
     output: &mut K,
 ) -> Status
+    requires { V.history version ≡ [] }
     ensures stops { IfTold (S.left input.old) (S.left input.new) (λ text rest.
         IfTold (K.written output.old) (K.written output.new) (λ out now.
-        Stops star.now text rest out now result)) }
+        Stops (V.base version) text rest out now result)) }
     ensures known { result ≡ Status.Usage → ⊥ }
     ensures unrefused { IsRefusal result → ⊥ }
     ensures long { result ≡ Status.InputLong → IfTold (S.left input.old) (S.left input.new) (λ text rest. IsLong text) }
@@ -109,26 +108,17 @@ pub fn serve<S: Source, K: Sink>(
     ensures write_cause { result ≡ Status.WriteFault → HasRisen (K.faults output.old) (K.faults output.new) }
     ensures write_quiet { result ≢ Status.WriteFault → K.faults output.new ≡ K.faults output.old }
 {
-    let Ok(mut oracle) = AdaptiveOracle::new(alloc, star) else {
+    let Ok(mut session) = Session::start(alloc, version) else {
         return Status::NoMemory;
     };
     let Ok(mut reader) = LineReader::new(alloc, MAX_LINE, MAX_INPUT) else {
         return Status::NoMemory;
     };
     let mut gathered = Gathered::new(alloc);
-    let mut memory = PlanMemory::new(alloc);
     'lines: loop {
         match next_line(&mut reader, input) {
             NextLine::More(asked) => {
-                match serve_one(
-                    alloc,
-                    &mut memory,
-                    star,
-                    &mut oracle,
-                    &asked,
-                    &mut gathered,
-                    output,
-                ) {
+                match serve_one(alloc, &mut session, &asked, &mut gathered, output) {
                     Served::Written => {}
                     Served::Quit => return Status::Done,
                     Served::WriteFault => return Status::WriteFault,
@@ -136,15 +126,7 @@ pub fn serve<S: Source, K: Sink>(
                 }
             }
             NextLine::Last(asked) => {
-                match serve_one(
-                    alloc,
-                    &mut memory,
-                    star,
-                    &mut oracle,
-                    &asked,
-                    &mut gathered,
-                    output,
-                ) {
+                match serve_one(alloc, &mut session, &asked, &mut gathered, output) {
                     Served::Written => return Status::Done,
                     Served::Quit => return Status::Done,
                     Served::WriteFault => return Status::WriteFault,

@@ -1,8 +1,9 @@
-use Rattle.std.proofs.Common.{IfSome, subst, sym}
+use Rattle.std.proofs.Common.{IfSome, ap, subst, sym}
 use Rattle.road_io.specs.Told.{IfTold}
 use Rattle.route_server.specs.declared.status.Status.{Status}
 use Rattle.route_server.specs.Answering.{AnswersFile}
-use Rattle.route_server.proofs.AnsweringLemmas.{answers_not_loaded}
+use Rattle.route_engine.specs.Lineage.{Lineage}
+use Rattle.route_server.proofs.AnsweringLemmas.{answers_loaded, answers_no_version, answers_not_loaded}
 use Rattle.route_server.proofs.answer.answer.Goals as goal
 
 pub returns-in-Err-clause-answers : goal.returns-in-Err-clause-answers
@@ -13,3 +14,10 @@ returns-in-Err-clause-answers g c =
     AnswersFile (told.files c.args.name.now) text rest out now how))))
     (sym c.ends_as.ensures)
     (answers_not_loaded _ _ _ c.args.name.now c.in-Err.error c.in-Err.ensures.loads)
+
+pub returns-in-Ok-from_file-clause-answers : goal.returns-in-Ok-from_file-clause-answers
+returns-in-Ok-from_file-clause-answers g c =
+    answers_loaded _ _ _ _ _ c.args.name.now c.in-Ok.graph c.in-Ok-from_file.version.base c.serve.result (ap (λ (v : Lineage). v.base) c.in-Ok-from_file.ensures) c.in-Ok.ensures.loads c.serve.ensures.stops
+
+pub returns-in-Err-from_file-clause-answers : goal.returns-in-Err-from_file-clause-answers
+returns-in-Err-from_file-clause-answers g c = answers_no_version _ _ _ c.args.name.now c.in-Ok.graph c.in-Ok.ensures.loads

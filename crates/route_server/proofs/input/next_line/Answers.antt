@@ -1,7 +1,7 @@
 use Rattle.std.proofs.Common.{◌∙◌, ap}
 use Rattle.road_io.proofs.ToldLemmas.{IfTold_then}
 use Rattle.route_server.specs.Asking.{asked_by}
-use Rattle.route_server.proofs.InputLemmas.{go_whole, go_last, go_long_told, go_long_last_told, go_end, go_over, go_failed, reader_asked}
+use Rattle.route_server.proofs.InputLemmas.{go_whole, go_last, go_long_told, go_long_last_told, go_end, go_over, go_failed}
 use Rattle.route_server.proofs.input.next_line.Goals as goal
 
 pub returns-in-Whole-clause-goes : goal.returns-in-Whole-clause-goes
@@ -28,9 +28,3 @@ returns-in-Spent-clause-goes g c = IfTold_then _ _ _ _ (go_over c.args.reader.no
 
 pub returns-in-Failed-clause-goes : goal.returns-in-Failed-clause-goes
 returns-in-Failed-clause-goes g c = IfTold_then _ _ _ _ (go_failed c.args.reader.now c.advance.new.self) c.in-Failed.ensures.steps
-
-pub returns-in-Whole-clause-reader : goal.returns-in-Whole-clause-reader
-returns-in-Whole-clause-reader g c = reader_asked _ _ c.read_request.ensures
-
-pub returns-in-Last-clause-reader : goal.returns-in-Last-clause-reader
-returns-in-Last-clause-reader g c = reader_asked _ _ c.read_request-in-Last.ensures
