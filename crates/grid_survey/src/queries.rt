@@ -9,7 +9,7 @@ use crate::Summary;
 use forward_star::Star;
 use rand_core::utils::NextWord;
 use rand_xoshiro::SplitMix64;
-use road_model::{Network, NoMemory, Query, Route, Vertex};
+use road_model::{NoMemory, Query, Route, Vertex};
 use std::alloc::Global;
 use tree_search::PlainOracle;
 use via_search::{PlanMemory, plan_in};

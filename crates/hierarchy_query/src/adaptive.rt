@@ -7,7 +7,7 @@ use crate::oracle::HierarchyOracle;
 use contraction_order::order_of;
 use forward_star::Star;
 use hierarchy_build::contract;
-use road_model::{Network, NoMemory, Oracle, Vertex};
+use road_model::{NoMemory, Oracle, Vertex};
 use std::alloc::Global;
 use std::marker::Model;
 use std::sync::Arc;

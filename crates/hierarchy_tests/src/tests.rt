@@ -8,7 +8,7 @@ use hierarchy_build::contract;
 use hierarchy_query::HierarchyOracle;
 use rand_core::SeedableRng;
 use rand_xoshiro::SplitMix64;
-use road_model::{Network, Oracle, Vertex};
+use road_model::{Oracle, Vertex};
 use std::alloc::Global;
 use std::sync::Arc;
 use std::test::Fail;

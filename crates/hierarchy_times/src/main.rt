@@ -19,7 +19,7 @@ use rand_core::SeedableRng;
 use rand_core::utils::NextWord;
 use rand_xoshiro::SplitMix64;
 use road_io::{FileShelf, Picked, Shelf};
-use road_model::{Network, Oracle, Vertex};
+use road_model::{Oracle, Vertex};
 use std::alloc::Global;
 use std::io::ErrorKind;
 use std::sync::Arc;

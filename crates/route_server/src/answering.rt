@@ -14,9 +14,7 @@ use canonical_trees::optimum_in;
 use desk_core::{Asked, Limits, page_reply, tested};
 use forward_star::Star;
 use line_front::Parsed;
-use road_model::{
-    ErrorKind, Network, NoMemory, Optimum, Oracle, Plan, Reply, Request, Verdict, Vertex,
-};
+use road_model::{ErrorKind, NoMemory, Optimum, Oracle, Plan, Reply, Request, Verdict, Vertex};
 use std::alloc::Global;
 use via_search::{PlanMemory, plan_in, verdict_in};
 

@@ -7,7 +7,7 @@ use forward_star::Star;
 use local_optimality::local;
 use path_tests::{shared, stretch};
 use road_model::{
-    ArcList, ArcNo, ArcRow, ArcRows, GraphFile, Network, NoMemory, Pair, Ratio, Trail, Vertex,
+    ArcList, ArcNo, ArcRow, ArcRows, GraphFile, NoMemory, Pair, Ratio, Trail, Vertex,
 };
 use std::alloc::Global;
 use std::test::Fail;
