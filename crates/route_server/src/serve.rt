@@ -16,12 +16,12 @@ use crate::gathered::Gathered;
 use crate::input::{NextLine, next_line};
 use crate::status::Status;
 use forward_star::Star;
-use hierarchy_query::AdaptiveOracle;
 use line_front::{MAX_LINE, Parsed, write_reply};
 use road_io::{Put, Sink, Source};
 use road_model::Oracle;
 use road_text::LineReader;
 use std::alloc::Global;
+use tree_search::PlainOracle;
 use via_search::PlanMemory;
 
 /// The most bytes of input.
@@ -86,8 +86,7 @@ fn serve_one<O: Oracle, K: Sink>(
 /// Answers the lines of the input until one ends the run, or the input ends or is too long, or a read or a write fails,
 /// or there is no memory to begin with or for the text of a reply.
 ///
-/// It keeps 128 KB for lines, 88 bytes a vertex for searches and plans, the longest reply, and once distances were
-/// asked often enough a hierarchy in place of 8 of the 88 bytes (`AdaptiveOracle`).
+/// It keeps 128 KB for lines, 88 bytes a vertex for searches and plans, and the longest reply.
 pub fn serve<S: Source, K: Sink>(
     alloc: Global,
     star: &Star,
@@ -109,7 +108,8 @@ pub fn serve<S: Source, K: Sink>(
     ensures write_cause { result ≡ Status.WriteFault → HasRisen (K.faults output.old) (K.faults output.new) }
     ensures write_quiet { result ≢ Status.WriteFault → K.faults output.new ≡ K.faults output.old }
 {
-    let Ok(mut oracle) = AdaptiveOracle::new(alloc, star) else {
+    let _limits = star.graph();
+    let Ok(mut oracle) = PlainOracle::new(alloc, star) else {
         return Status::NoMemory;
     };
     let Ok(mut reader) = LineReader::new(alloc, MAX_LINE, MAX_INPUT) else {

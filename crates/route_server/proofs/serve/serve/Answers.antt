@@ -1,9 +1,13 @@
 use Rattle.std.proofs.Common.{refl, ap, arith, ◌∙◌}
-use Rattle.hierarchy_query.specs.Asks.{Questions}
+use Rattle.forward_star.proofs.Bound.{dists_below}
+use Rattle.tree_search.specs.Oracle.{Questions}
 use Rattle.route_server.specs.Serving.{opening}
 use Rattle.route_server.proofs.ReadingLemmas.{reads_start, reads_more, reads_over}
 use Rattle.route_server.proofs.ServingLemmas.{runs_start, runs_more, ends_unread, ends_quit, ends_more_fault, ends_more_memory, ends_last, ends_last_quit, ends_last_fault, ends_last_memory, ends_end, ends_over, ends_failed}
 use Rattle.route_server.proofs.serve.serve.Goals as goal
+
+pub new-requires-clause-near : goal.new-requires-clause-near
+new-requires-clause-near g c = dists_below c.args.star.now c.graph-limits.ensures.limits
 
 pub returns-in_default-clause-stops : goal.returns-in_default-clause-stops
 returns-in_default-clause-stops g c = ends_unread c.args.star.now _ _
