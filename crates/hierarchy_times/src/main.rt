@@ -7,7 +7,6 @@
 
 ghost use Rattle.std.specs.Prelude.{◌≤◌, ◌≡◌, All, IfOk};
 ghost use Rattle.road_model.specs.Graph.{IsVertex};
-ghost use Rattle.hierarchy_build.specs.Hierarchy.{IsHierarchy};
 ghost use Rattle.hierarchy_build.specs.Own.{own_graph};
 
 use contraction_order::order_of;
@@ -62,8 +61,7 @@ fn tell(rt: &HostRuntime, part: &str, begin: Instant) -> io::Result<()> {
 
 // The hierarchy of a graph, built, and then given its lengths anew.
 fn build(rt: &HostRuntime, star: &Star) -> io::Result<Hierarchy>
-    ensures own { IfOk result (λ h. IsHierarchy (own_graph h) h) }
-    ensures vertices { IfOk result (λ h. (own_graph h).vertices ≡ star.now.vertices) }
+    ensures { IfOk result (λ h. (own_graph h).vertices ≡ star.now.vertices) }
 {
     let begin = Instant::now(rt)?;
     let order = order_of(rt.alloc(), star)?;
@@ -71,7 +69,7 @@ fn build(rt: &HostRuntime, star: &Star) -> io::Result<Hierarchy>
     let begin = Instant::now(rt)?;
     let hierarchy = contract(rt.alloc(), star, order)?;
     tell(rt, "contract", begin)?;
-    let Hierarchy { shape, .. } = hierarchy;
+    let shape = hierarchy.shared_shape().clone()?;
     let begin = Instant::now(rt)?;
     let hierarchy = customise(rt.alloc(), shape, star)?;
     tell(rt, "customise", begin)?;
@@ -86,7 +84,6 @@ fn ask(
     words: &mut SplitMix64,
     pairs: u32,
 ) -> io::Result<()>
-    requires hierarchy { IsHierarchy (own_graph hierarchy.value) hierarchy.value }
     requires vertices { vertices ≡ (own_graph hierarchy.value).vertices }
     requires some { 1 ≤ vertices }
 {
@@ -113,7 +110,6 @@ fn ask_many(
     hierarchy: Arc<Hierarchy, Global>,
     words: &mut SplitMix64,
 ) -> io::Result<()>
-    requires hierarchy { IsHierarchy (own_graph hierarchy.value) hierarchy.value }
     requires vertices { vertices ≡ (own_graph hierarchy.value).vertices }
     requires some { 1 ≤ vertices }
 {
