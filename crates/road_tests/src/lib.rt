@@ -6,6 +6,8 @@ mod changes;
 #[cfg(test)]
 mod commands;
 #[cfg(test)]
+mod engine;
+#[cfg(test)]
 mod faults;
 #[cfg(test)]
 mod graphs;
