@@ -1,7 +1,6 @@
 -- The steps of a session.
-use Rattle.std.proofs.Common.{◌≡◌, ◌≢◌, ◌⊎◌, ℕ, ◌+◌, ◌-◌, ◌≤◌, min, Bool, true, false, cond, List, [], ◌∷◌, ◌++◌, length, take, Option, Some, None, Result, Ok, Err, IsTrue, refl, sym, ap, ◌∙◌, subst, arith, inl, inr}
-use Rattle.std.specs.Prelude.{not, ◌==◌, ◌&&◌}
-use Rattle.std.specs.Option.{option_or}
+use Rattle.std.proofs.Common.{◌≡◌, ◌≢◌, ℕ, ◌+◌, ◌-◌, ◌≤◌, min, Bool, true, false, List, [], ◌∷◌, ◌++◌, length, Option, Some, None, Result, Ok, Err, refl, sym, ap, ◌∙◌, subst, arith, inl, inr}
+use Rattle.std.specs.Prelude.{not, ◌==◌}
 use Rattle.std.proofs.lemmas.List.{take_all}
 use Rattle.std.proofs.lemmas.List.Elements.{All-nil}
 use Rattle.std.proofs.lemmas.Bool.Decides.{nat_tests}
@@ -35,7 +34,6 @@ use Rattle.desk_core.specs.KeptAnswers.{with_desk, IsKeptAnswer}
 use Rattle.desk_core.proofs.KeptLemmas.{desk_step, step_keeps, staged_keeps, published_keeps}
 use Rattle.desk_core.proofs.Passed.{passed_ok}
 use Rattle.line_front.specs.Replies.{HasItems}
-use Rattle.route_server.specs.Asking.{is_quit_request}
 use Rattle.route_server.specs.Sessions.{SessionState, state_of, versions_of, IsChange, IsChangeMade, IsSoundSession}
 use Rattle.route_server.proofs.ChangeLemmas.{SameSize, after_all-size, change_fault-push, change_fault-size}
 

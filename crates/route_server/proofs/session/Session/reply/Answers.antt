@@ -1,4 +1,4 @@
-use Rattle.std.proofs.Common.{◌≡◌, ap, subst}
+use Rattle.std.proofs.Common.{ap, subst}
 use Rattle.desk_core.specs.Desks.{first_plan}
 use Rattle.desk_core.specs.KeptAnswers.{with_desk}
 use Rattle.desk_core.specs.Replies.{IsStep}

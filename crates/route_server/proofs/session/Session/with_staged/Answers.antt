@@ -1,4 +1,4 @@
-use Rattle.std.proofs.Common.{◌≡◌, ◌≢◌, ◌∙◌, ap, subst, sym}
+use Rattle.std.proofs.Common.{◌≢◌, ◌∙◌, ap, subst, sym}
 use Rattle.road_model.specs.Versions.{last_version}
 use Rattle.desk_core.specs.States.{newest}
 use Rattle.route_server.specs.Sessions.{SessionState, state_of}
