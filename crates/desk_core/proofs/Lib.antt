@@ -6,3 +6,8 @@ pub mod CacheLemmas
 pub mod DeskLemmas
 pub mod KeptLemmas
 pub mod Arcless
+pub mod HistoryLemmas
+pub mod WorldLemmas
+pub mod Bare
+pub mod CallerLemmas
+pub mod AskLemmas
