@@ -7,3 +7,8 @@ pub mod DeskLemmas
 pub mod KeptLemmas
 pub mod Arcless
 pub mod ShownLemmas
+pub mod HistoryLemmas
+pub mod WorldLemmas
+pub mod Bare
+pub mod CallerLemmas
+pub mod AskLemmas

@@ -8,3 +8,7 @@ pub mod Desks
 pub mod KeptAnswers
 pub mod KeyLaws
 pub mod Views
+pub mod Histories
+pub mod Worlds
+pub mod CallerTurns
+pub mod WorldSteps

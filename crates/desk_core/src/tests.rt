@@ -1,6 +1,7 @@
 //! Refusals in the order of the tests, what is asked, and the pages of a small plan.
 
 mod desk;
+mod world;
 
 use crate::{Asked, Limits, page_reply, tested};
 use road_model::{
