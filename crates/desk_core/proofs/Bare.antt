@@ -70,9 +70,9 @@ bare_answer n q same =
       each = All-nil (IsRoute g q []);
       every = λ p alternative.
           let t = alternative.through in
-          let front : t.front ≡ [] = stands n q.from alternative.via t.front t.first.shortest.walk in
+          let prefix : t.prefix ≡ [] = stands n q.from alternative.via t.prefix t.first.shortest.walk in
           let back : t.back ≡ [] = stands n alternative.via q.to t.back t.last.shortest.walk in
-          let whole : p ≡ [] = t.joined ∙ ap (λ (l : List ℕ). l ++ t.back) front ∙ back in
+          let whole : p ≡ [] = t.joined ∙ ap (λ (l : List ℕ). l ++ t.back) prefix ∙ back in
           absurd (alternative.other whole);
       ascending = tt;
     })
