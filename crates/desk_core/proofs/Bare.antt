@@ -64,15 +64,16 @@ pub bare_answer : (n : ℕ) (q : Query) → q.from ≡ q.to → IsAnswer (bare n
 bare_answer n q same =
     let g : Graph = bare n in
     let shortest : IsShortest g q.from [] q.to = record { walk = same; least = λ p walk. omega arith } in
-    let first : IsFirst g q.from [] q.to = record { shortest = shortest; least = λ p other. tt } in
-    ((first, refl),
-    record {
-      each = All-nil (IsRoute g q []);
-      every = λ p alternative.
-          let t = alternative.through in
-          let prefix : t.prefix ≡ [] = stands n q.from alternative.via t.prefix t.first.shortest.walk in
-          let back : t.back ≡ [] = stands n alternative.via q.to t.back t.last.shortest.walk in
-          let whole : p ≡ [] = t.joined ∙ ap (λ (l : List ℕ). l ++ t.back) prefix ∙ back in
-          absurd (alternative.other whole);
-      ascending = tt;
-    })
+    let first : IsFirst g q.from [] q.to = record { shortest = shortest; least = λ p other. tt } in (
+      (first, refl),
+      record {
+        each = All-nil (IsRoute g q []);
+        every = λ p alternative.
+            let t = alternative.through in
+            let prefix : t.prefix ≡ [] = stands n q.from alternative.via t.prefix t.first.shortest.walk in
+            let back : t.back ≡ [] = stands n alternative.via q.to t.back t.last.shortest.walk in
+            let whole : p ≡ [] = t.joined ∙ ap (λ (l : List ℕ). l ++ t.back) prefix ∙ back in
+            absurd (alternative.other whole);
+        ascending = tt;
+      },
+    )

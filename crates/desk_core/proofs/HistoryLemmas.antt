@@ -27,7 +27,7 @@ module _ {V : Type 0} (base : V → Graph) (history : V → List (List Change)) 
       let count = are.count in
       let whole : take k (history newest) ≡ history newest = take_all k (history newest) (omega arith) in
       let r : Before older newest k (get_or older k newest) =
-          subst (Before older newest k) (sym (get_or-eq_default older newest {n = k} last)) (refl, sym whole)
+      subst (Before older newest k) (sym (get_or-eq_default older newest {n = k} last)) (refl, sym whole)
       in
       r)
       (cases_lt k (length older))
@@ -84,7 +84,7 @@ module _ {V : Type 0} (base : V → Graph) (history : V → List (List Change)) 
   versions_pushed older pushed kept newest next held made gone batch are is stays was becomes same more holds =
       let all : pushed ≡ older ++ newest ∷ [] = is ∙ ap (λ (l : List V). l ++ gone ∷ []) stays ∙ ap (λ (v : V). older ++ v ∷ []) was in
       let history_is : history next ≡ history newest ++ batch ∷ [] =
-          ap history becomes ∙ more ∙ ap (λ (v : V). history v ++ batch ∷ []) holds
+      ap history becomes ∙ more ∙ ap (λ (v : V). history v ++ batch ∷ []) holds
       in
       subst (λ (l : List V). AreVersions base history l next) (sym all)
       (versions_grow older newest next batch are (ap base becomes ∙ same ∙ ap base holds) history_is)

@@ -191,10 +191,11 @@ replied c w next last events outcomes caller version request r shown inside h mo
     (if b then (version, request) ∷ own_requests c events outcomes else own_requests c events outcomes)
     (if b then (r, shown) ∷ replies_to c events outcomes else replies_to c events outcomes))
     (λ same.
-    let own : IsTurn version (graph_in w.history version) (desk_at w c) request r shown h.desk = subst (λ (k : ℕ). IsTurn version (graph_in w.history version) (desk_at w k) request r shown h.desk) same h.turn in
-    (h.desk,
-    subst (λ (g : Graph). IsTurn version g (desk_at w c) request r shown h.desk) (sym (graph_stays w last version moves h.there)) own,
-    skip c w next last events outcomes base h.desk (moved ∙ desk_set_same w.callers caller c x inside same) rest))
+    let own : IsTurn version (graph_in w.history version) (desk_at w c) request r shown h.desk = subst (λ (k : ℕ). IsTurn version (graph_in w.history version) (desk_at w k) request r shown h.desk) same h.turn in (
+      h.desk,
+      subst (λ (g : Graph). IsTurn version g (desk_at w c) request r shown h.desk) (sym (graph_stays w last version moves h.there)) own,
+      skip c w next last events outcomes base h.desk (moved ∙ desk_set_same w.callers caller c x inside same) rest,
+    ))
     (λ other. skip c w next last events outcomes base (desk_at w c) (moved ∙ desk_set_other w.callers caller c x other) rest)
 
 alone_step : (c : ℕ) (w next last : WorldState) (e : Event) (o : Outcome) (events : List Event) (outcomes : List Outcome) → c < length w.callers → IsEventStep w e o next → Moves w last → Alone c next last events outcomes → Alone c w last (e ∷ events) (o ∷ outcomes)

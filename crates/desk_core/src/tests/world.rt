@@ -250,10 +250,7 @@ fn a_version_that_was_seen_is_not_left(rt: HostRuntime) -> Result<(), Fail> {
         (Happens::Tell(true, 1), Met::Told(2)),
         (Happens::Version(true, 1), Met::NotAllowed(2, 2)),
         (Happens::Publish(0), Met::Published(3)),
-        (
-            Happens::Best(true, 3),
-            Met::Error("memory", None),
-        ),
+        (Happens::Best(true, 3), Met::Error("memory", None)),
         (Happens::Version(true, 2), Met::NotAllowed(3, 3)),
     ];
     run(&rt, rt.alloc(), &rows)?;

@@ -24,11 +24,10 @@ invariant_of-result c =
     let past : c.in_ok-past.past ≡ c.self.inside.past ++ c.args.changes.now ∷ [] = c.in_ok-past.ensures in
     let before : graph_of c.args.self.now ≡ after_all c.self.inside.base.value c.self.inside.past = ap graph_of (sym c.self.view_is) in
     let all : after (graph_of c.args.self.now) c.args.changes.now ≡ after_all c.self.inside.base.value (c.self.inside.past ++ c.args.changes.now ∷ []) =
-        ap (λ (g : Graph). after g c.args.changes.now) before ∙ sym (after_all-append c.self.inside.base.value c.self.inside.past c.args.changes.now) in
-    let P : Graph → Type 0 = λ g. IfSome c.in_ok-hierarchy.hierarchy (λ h. Serves g h.value) in
-    (
+    ap (λ (g : Graph). after g c.args.changes.now) before ∙ sym (after_all-append c.self.inside.base.value c.self.inside.past c.args.changes.now) in
+    let P : Graph → Type 0 = λ g. IfSome c.in_ok-hierarchy.hierarchy (λ h. Serves g h.value) in (
       star ∙ c.requires.star ∙ all
-      ∙ ap (λ (g : Graph). after_all g (c.self.inside.past ++ c.args.changes.now ∷ [])) (sym base)
-      ∙ ap (λ (h : List (List Change)). after_all c.in_ok-base.base.value h) (sym past),
-      subst P (sym star) c.in_ok-hierarchy.ensures
+          ∙ ap (λ (g : Graph). after_all g (c.self.inside.past ++ c.args.changes.now ∷ [])) (sym base)
+          ∙ ap (λ (h : List (List Change)). after_all c.in_ok-base.base.value h) (sym past),
+      subst P (sym star) c.in_ok-hierarchy.ensures,
     )
