@@ -276,7 +276,7 @@ fn halves(alloc: Global, star: &Star, radius: u64) -> Result<TreePair<'_>, Fail>
 }
 
 // The labels and the arcs of each vertex, from 1 and to 6.
-const ROWS: [(u32, &str); 8] = [
+static ROWS: [(u32, &str); 8] = [
     (0, "- - - -"),
     (1, "0 - - -"),
     (2, "10 10 1 2"),
