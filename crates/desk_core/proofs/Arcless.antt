@@ -7,7 +7,7 @@ use Rattle.road_model.specs.Dist.{NoWalk}
 abbrev pub arcless : ℕ → Graph
 arcless n = record { vertices = n; arcs = [] }
 
-no_arc : (n a : ℕ) (r : ArcRow) → arc_at (arcless n) a ≡ Some r → ⊥
+pub no_arc : (n a : ℕ) (r : ArcRow) → arc_at (arcless n) a ≡ Some r → ⊥
 no_arc n zero r e = let f : ◌≡◌ {A = Option ArcRow} None (Some r) = e in cc
 no_arc n (suc k) r e = let f : ◌≡◌ {A = Option ArcRow} None (Some r) = e in cc
 

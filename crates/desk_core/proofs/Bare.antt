@@ -1,58 +1,58 @@
 -- Versions of a graph without arcs: no batch with a change is accepted, so each batch is empty.
-use Rattle.std.proofs.Common.{◌≡◌, ℕ, zero, suc, ◌+◌, Bool, true, false, List, [], ◌∷◌, ◌++◌, length, replicate, Option, Some, None, refl, sym, ap, ◌∙◌, subst, arith}
+use Rattle.std.proofs.Common.{◌≡◌, ◌≢◌, ℕ, zero, suc, ◌+◌, Bool, true, false, List, [], ◌∷◌, ◌++◌, length, replicate, Option, Some, None, refl, sym, ap, ◌∙◌, subst, eqb, arith, inr}
 use Rattle.std.specs.Prelude.{nat_le, ◌&&◌, ◌==◌, if◌then◌else◌, reverse}
+use Rattle.std.proofs.lemmas.Bool.Decides.{nat_tests}
 use Rattle.std.specs.Option.{option_or}
+use Rattle.std.proofs.lemmas.Bool.{eqb-true}
 use Rattle.std.proofs.lemmas.List.{length-replicate}
 use Rattle.std.proofs.lemmas.List.Elements.{All-nil}
 use Rattle.road_model.specs.declared.answer.Optimum.{Optimum}
-use Rattle.road_model.specs.declared.answer.Plan.TheVariants.{Found}
+use Rattle.road_model.specs.declared.answer.Plan.{Plan}
+use Rattle.road_model.specs.declared.answer.Plan.TheVariants.{NoPath, Found}
 use Rattle.road_model.specs.declared.answer.Query.{Query}
 use Rattle.road_model.specs.declared.answer.Route.{Route}
 use Rattle.road_model.specs.declared.change.Change.{Change}
 use Rattle.road_model.specs.declared.change.ChangeFault.{ChangeFault}
 use Rattle.road_model.specs.declared.change.ChangeFault.TheVariants as fault
-use Rattle.road_model.specs.declared.rows.ArcRow.{ArcRow}
-use Rattle.road_model.specs.Graph.{Graph, arc_at}
+use Rattle.road_model.specs.Graph.{Graph, arc_count}
 use Rattle.road_model.specs.Walk.{IsWalk}
-use Rattle.road_model.specs.Dist.{IsShortest, NoWalk}
+use Rattle.road_model.specs.Dist.{IsShortest}
 use Rattle.road_model.specs.Canonical.{IsFirst, IsOptimum}
 use Rattle.road_model.specs.Alternatives.{IsAlternative}
 use Rattle.road_model.specs.Answers.{IsAnswer, IsRoute, HasRoute}
 use Rattle.road_model.specs.Changes.{after_all, fault_of}
-use Rattle.road_model.specs.Versions.{version_fault}
+use Rattle.road_model.specs.Versions.{version_fault, IsRefusedAs}
+use Rattle.desk_core.proofs.Arcless.{arcless, no_arc, no_walk}
 
-abbrev pub bare : ℕ → Graph
-bare n = record { vertices = n; arcs = [] }
+abbrev pub bare_at : ℕ → ℕ → Graph
+bare_at vertices n = after_all (arcless vertices) (replicate n [])
 
-abbrev pub empty_batches : ℕ → List (List Change)
-empty_batches n = replicate n []
+-- empty batches change nothing
+stays : (g : Graph) (n : ℕ) → g ≡ after_all g (replicate n [])
+stays g zero = refl
+stays g (suc n) = stays g n
 
-pub bare_after : (g : Graph) (n : ℕ) → g ≡ after_all g (empty_batches n)
-bare_after g zero = refl
-bare_after g (suc n) = bare_after g n
+pub bare_vertices : (vertices n : ℕ) → vertices ≡ (bare_at vertices n).vertices
+bare_vertices vertices n = ap (λ (g : Graph). g.vertices) (stays (arcless vertices) n)
 
-pub bare_number : (n : ℕ) → n + 1 ≡ length (empty_batches n) + 1
-bare_number n = let long : length (empty_batches n) ≡ n = length-replicate n [] in omega arith
-
-no_number : (a : ℕ) → (nat_le 1 a && nat_le a 0) ≡ false
-no_number zero = refl
-no_number (suc a) = refl
+pub bare_arcs : (vertices n : ℕ) → 0 ≡ arc_count (bare_at vertices n)
+bare_arcs vertices n = ap arc_count (stays (arcless vertices) n)
 
 -- a change of an arc that isn't there
-pub bare_fault : (vertices n : ℕ) (c : Change) (batch : List Change) → version_fault (bare vertices) n (c ∷ batch) ≡ Some fault.ArcRange
-bare_fault vertices n c batch = rw (no_number c.arc) refl
+no_number : (a : ℕ) → (nat_le 1 a && nat_le a 0) ≡ false
+no_number a = grind (arith, nat_tests)
+
+range_fault : (vertices n : ℕ) (c : Change) (batch : List Change) → version_fault (arcless vertices) n (c ∷ batch) ≡ Some fault.ArcRange
+range_fault vertices n c batch = rw (no_number c.arc) refl
+
+pub refused_range : (vertices n number : ℕ) (changes : List Change) (b : Bool) → b ≡ (length changes == 0) → b ≡ false → IsRefusedAs (version_fault (bare_at vertices n) number changes) fault.ArcRange
+refused_range vertices n number [] b e f = absurd (let t : true ≡ false = sym e ∙ f in cc)
+refused_range vertices n number (c ∷ changes) b e f =
+    subst (λ (g : Graph). IsRefusedAs (version_fault g number (c ∷ changes)) fault.ArcRange) (stays (arcless vertices) n) (inr (range_fault vertices number c changes))
 
 -- ---- walks
 
-no_arc : (n a : ℕ) (r : ArcRow) → arc_at (bare n) a ≡ Some r → ⊥
-no_arc n zero r e = let f : ◌≡◌ {A = Option ArcRow} None (Some r) = e in cc
-no_arc n (suc k) r e = let f : ◌≡◌ {A = Option ArcRow} None (Some r) = e in cc
-
-pub no_bare_walk : (n u v : ℕ) → (u ≡ v → ⊥) → NoWalk (bare n) u v
-no_bare_walk n u v apart [] h = apart h
-no_bare_walk n u v apart (a ∷ p) (r, is, tail, rest) = no_arc n a r is
-
-stands : (n u v : ℕ) (p : List ℕ) → IsWalk (bare n) u p v → p ≡ []
+stands : (n u v : ℕ) (p : List ℕ) → IsWalk (arcless n) u p v → p ≡ []
 stands n u v [] h = refl
 stands n u v (a ∷ p) (r, is, tail, rest) = absurd (no_arc n a r is)
 
@@ -60,9 +60,10 @@ abbrev pub nowhere : Optimum
 nowhere = record { length = 0; arcs = [] }
 
 -- from a vertex to itself
-pub bare_answer : (n : ℕ) (q : Query) → q.from ≡ q.to → IsAnswer (bare n) q (Found nowhere [])
-bare_answer n q same =
-    let g : Graph = bare n in
+bare_answer : (n : ℕ) (q : Query) (b : Bool) → b ≡ eqb q.from q.to → b ≡ true → IsAnswer (arcless n) q (Found nowhere [])
+bare_answer n q b tested holds =
+    let same : q.from ≡ q.to = eqb-true q.from q.to (sym tested ∙ holds) in
+    let g : Graph = arcless n in
     let shortest : IsShortest g q.from [] q.to = record { walk = same; least = λ p walk. omega arith } in
     let first : IsFirst g q.from [] q.to = record { shortest = shortest; least = λ p other. tt } in (
       (first, refl),
@@ -77,3 +78,12 @@ bare_answer n q same =
         ascending = tt;
       },
     )
+
+pub bare_plan : (vertices n : ℕ) (q : Query) (plan : Plan) (b : Bool) → b ≡ eqb q.from q.to → b ≡ true → plan ≡ Found nowhere [] → IsAnswer (bare_at vertices n) q plan
+bare_plan vertices n q plan b tested holds is =
+    subst (IsAnswer (bare_at vertices n) q) (sym is)
+    (subst (λ (g : Graph). IsAnswer g q (Found nowhere [])) (stays (arcless vertices) n) (bare_answer vertices q b tested holds))
+
+pub bare_none : (vertices n : ℕ) (q : Query) (b : Bool) → b ≡ eqb q.from q.to → b ≡ false → IsAnswer (bare_at vertices n) q NoPath
+bare_none vertices n q b tested fails =
+    subst (λ (g : Graph). IsAnswer g q NoPath) (stays (arcless vertices) n) (no_walk vertices q.from q.to b tested fails)

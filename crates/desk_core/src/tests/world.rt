@@ -3,6 +3,7 @@
 ghost use Rattle.std.specs.Prelude.{◌≡◌, [], ◌∷◌, IfOk};
 ghost use Rattle.std.specs.List.{All};
 ghost use Rattle.desk_core.specs.Desks.{IsDeskRequest};
+ghost use Rattle.road_model.specs.declared.answer.Plan.TheVariants as plan;
 ghost use Rattle.desk_core.specs.Worlds.{IsEventFor};
 
 use crate::{Event, Outcome, World, run_desks};
@@ -24,9 +25,13 @@ struct Bare {
 impl Planner for Bare {
     type Work = ();
 
-    ghost graph = { λ _. record { vertices = 20; arcs = [] } };
+    ghost use Rattle.std.specs.Prelude.{[], ◌+◌, List, length, replicate};
+    ghost use Rattle.road_model.specs.declared.change.Change.{Change};
+    ghost use Rattle.road_model.specs.Changes.{after_all};
 
-    ghost version = { λ v. v.batches + 1 };
+    ghost graph = { λ v. after_all (record { vertices = 20; arcs = [] }) (replicate v.batches []) };
+
+    ghost version = { λ v. length (replicate {A = List Change} v.batches []) + 1 };
 
     fn work(_alloc: Global) {}
 
@@ -53,17 +58,10 @@ impl Planner for Bare {
     }
 
     fn plan(&self, alloc: Global, _work: &mut (), query: &Query) -> Result<Plan, NoMemory> {
-        if query.from != query.to {
-            return Ok(Plan::NoPath);
+        if query.from == query.to {
+            return Ok(nowhere(alloc));
         }
-        let optimum = Optimum {
-            length: 0,
-            arcs: Items::new(alloc),
-        };
-        Ok(Plan::Found {
-            optimum,
-            others: Items::new(alloc),
-        })
+        Ok(Plan::NoPath)
     }
 
     fn verdict(
@@ -78,11 +76,11 @@ impl Planner for Bare {
 }
 
 impl Version for Bare {
-    ghost use Rattle.desk_core.proofs.Bare.{bare, bare_after, bare_number, empty_batches};
+    ghost use Rattle.std.specs.Prelude.{[], refl, replicate};
 
-    ghost base = { λ _. bare 20 };
+    ghost base = { λ _. record { vertices = 20; arcs = [] } };
 
-    ghost history = { λ v. empty_batches v.batches };
+    ghost history = { λ v. replicate v.batches [] };
 
     fn after(&self, _alloc: Global, changes: &[Change]) -> Result<Bare, ChangeFault> {
         if !changes.is_empty() {
@@ -97,12 +95,27 @@ impl Version for Bare {
         Ok(Bare { batches })
     }
 
-    ghost has_graph = { λ v. bare_after (bare 20) v.batches };
+    ghost has_graph = { λ v. refl };
 
-    ghost has_number = { λ v. bare_number v.batches };
+    ghost has_number = { λ v. refl };
+}
+
+/// The plan from a vertex to itself.
+fn nowhere(alloc: Global) -> Plan
+    ensures { result ≡ plan.Found (record { length = 0; arcs = [] }) [] }
+{
+    let optimum = Optimum {
+        length: 0,
+        arcs: Items::new(alloc),
+    };
+    Plan::Found {
+        optimum,
+        others: Items::new(alloc),
+    }
 }
 
 /// What happens.
+#[derive(Drop)]
 enum Happens {
     /// A caller, 0 or 1, asks for the version.
     Version(bool, u64),
@@ -118,8 +131,8 @@ enum Happens {
 }
 
 /// What it comes to.
-#[derive(Debug, PartialEq)]
-enum Met {
+#[derive(Debug, Drop, PartialEq)]
+enum Wanted {
     Version(u64),
     /// A page, beside which a plan stands.
     Page(u64),
@@ -145,7 +158,7 @@ fn request(caller: bool, version: u64, request: Request) -> Event
     }
 }
 
-fn event(alloc: Global, happens: &Happens) -> Result<Event, NoMemory>
+fn event_of(alloc: Global, happens: &Happens) -> Result<Event, NoMemory>
     ensures { IfOk result (IsEventFor 2) }
 {
     Ok(match happens {
@@ -191,45 +204,45 @@ fn batch(alloc: Global, count: usize) -> Result<Batch, NoMemory> {
     Ok(changes)
 }
 
-fn events(alloc: Global, rows: &[(Happens, Met)]) -> Result<Vec<Event>, NoMemory>
+fn events(alloc: Global, rows: &[(Happens, Wanted)]) -> Result<Vec<Event>, NoMemory>
     ensures { IfOk result (λ es. All (IsEventFor 2) es.items) }
 {
     let mut events = Vec::new(alloc);
     for (happens, _) in rows {
-        events.push(event(alloc, happens)?)?;
+        events.push(event_of(alloc, happens)?)?;
     }
     Ok(events)
 }
 
-fn met(outcome: &Outcome) -> Met {
+fn told(outcome: &Outcome) -> Wanted {
     match outcome {
         Outcome::Reply {
             reply: Reply::Page { number, .. },
             shown: Some(_),
-        } => Met::Page(*number),
-        Outcome::Reply { shown: Some(_), .. } => Met::Other,
+        } => Wanted::Page(*number),
+        Outcome::Reply { shown: Some(_), .. } => Wanted::Other,
         Outcome::Reply { reply, shown: None } => match reply {
-            Reply::Version { number } => Met::Version(*number),
-            Reply::NoPath { number } => Met::NoPath(*number),
-            Reply::Error(kind) => Met::Error(kind.word(), kind.number()),
-            _ => Met::Other,
+            Reply::Version { number } => Wanted::Version(*number),
+            Reply::NoPath { number } => Wanted::NoPath(*number),
+            Reply::Error(kind) => Wanted::Error(kind.word(), kind.number()),
+            _ => Wanted::Other,
         },
-        Outcome::Published { number } => Met::Published(*number),
-        Outcome::Refused(fault) => Met::Refused(*fault),
-        Outcome::Told { seen } => Met::Told(*seen),
-        Outcome::NotAllowed { seen, newest } => Met::NotAllowed(*seen, *newest),
+        Outcome::Published { number } => Wanted::Published(*number),
+        Outcome::Refused(fault) => Wanted::Refused(*fault),
+        Outcome::Told { seen } => Wanted::Told(*seen),
+        Outcome::NotAllowed { seen, newest } => Wanted::NotAllowed(*seen, *newest),
     }
 }
 
 /// Lets the events of these rows happen in a world that was just started, where each has to come to what stands beside
 /// it.
-fn run(rt: &impl Abort, alloc: Global, rows: &[(Happens, Met)]) -> Result<(), NoMemory> {
+fn run(rt: &impl Abort, alloc: Global, rows: &[(Happens, Wanted)]) -> Result<(), NoMemory> {
     let mut world = World::start(alloc, Bare { batches: 0 }, 2)?;
     let events = events(alloc, rows)?;
     let outcomes = run_desks(alloc, &mut world, &mut (), &events)?;
     assert_eq!(rt; outcomes.len(), rows.len());
     for (outcome, (_, wanted)) in outcomes.as_slice().iter().zip(rows) {
-        assert_eq!(rt; met(outcome), *wanted);
+        assert_eq!(rt; told(outcome), *wanted);
     }
     Ok(())
 }
@@ -237,21 +250,21 @@ fn run(rt: &impl Abort, alloc: Global, rows: &[(Happens, Met)]) -> Result<(), No
 #[test]
 fn a_version_that_was_seen_is_not_left(rt: HostRuntime) -> Result<(), Fail> {
     let rows = [
-        (Happens::Version(false, 1), Met::Version(1)),
-        (Happens::Publish(0), Met::Published(2)),
-        (Happens::Version(false, 1), Met::Version(1)),
-        (Happens::Version(false, 2), Met::Version(2)),
-        (Happens::Version(false, 1), Met::NotAllowed(2, 2)),
-        (Happens::Version(true, 1), Met::Version(1)),
-        (Happens::Version(true, 3), Met::NotAllowed(1, 2)),
-        (Happens::Publish(1), Met::Refused(ChangeFault::ArcRange)),
-        (Happens::Tell(true, 3), Met::NotAllowed(1, 2)),
-        (Happens::Tell(true, 2), Met::Told(2)),
-        (Happens::Tell(true, 1), Met::Told(2)),
-        (Happens::Version(true, 1), Met::NotAllowed(2, 2)),
-        (Happens::Publish(0), Met::Published(3)),
-        (Happens::Best(true, 3), Met::Error("memory", None)),
-        (Happens::Version(true, 2), Met::NotAllowed(3, 3)),
+        (Happens::Version(false, 1), Wanted::Version(1)),
+        (Happens::Publish(0), Wanted::Published(2)),
+        (Happens::Version(false, 1), Wanted::Version(1)),
+        (Happens::Version(false, 2), Wanted::Version(2)),
+        (Happens::Version(false, 1), Wanted::NotAllowed(2, 2)),
+        (Happens::Version(true, 1), Wanted::Version(1)),
+        (Happens::Version(true, 3), Wanted::NotAllowed(1, 2)),
+        (Happens::Publish(1), Wanted::Refused(ChangeFault::ArcRange)),
+        (Happens::Tell(true, 3), Wanted::NotAllowed(1, 2)),
+        (Happens::Tell(true, 2), Wanted::Told(2)),
+        (Happens::Tell(true, 1), Wanted::Told(2)),
+        (Happens::Version(true, 1), Wanted::NotAllowed(2, 2)),
+        (Happens::Publish(0), Wanted::Published(3)),
+        (Happens::Best(true, 3), Wanted::Error("memory", None)),
+        (Happens::Version(true, 2), Wanted::NotAllowed(3, 3)),
     ];
     run(&rt, rt.alloc(), &rows)?;
     Ok(())
@@ -260,14 +273,14 @@ fn a_version_that_was_seen_is_not_left(rt: HostRuntime) -> Result<(), Fail> {
 #[test]
 fn each_caller_has_a_desk_of_its_own(rt: HostRuntime) -> Result<(), Fail> {
     let rows = [
-        (Happens::Route(false, 1, 1), Met::Page(1)),
-        (Happens::Route(false, 1, 2), Met::NoPath(1)),
-        (Happens::Publish(0), Met::Published(2)),
-        (Happens::Next(true, 2, 1, 1), Met::Error("gone", Some(2))),
-        (Happens::Next(false, 2, 1, 1), Met::Page(1)),
-        (Happens::Next(false, 2, 1, 2), Met::NoPath(1)),
-        (Happens::Route(false, 2, 1), Met::Page(2)),
-        (Happens::Route(false, 2, 21), Met::Error("vertex", None)),
+        (Happens::Route(false, 1, 1), Wanted::Page(1)),
+        (Happens::Route(false, 1, 2), Wanted::NoPath(1)),
+        (Happens::Publish(0), Wanted::Published(2)),
+        (Happens::Next(true, 2, 1, 1), Wanted::Error("gone", Some(2))),
+        (Happens::Next(false, 2, 1, 1), Wanted::Page(1)),
+        (Happens::Next(false, 2, 1, 2), Wanted::NoPath(1)),
+        (Happens::Route(false, 2, 1), Wanted::Page(2)),
+        (Happens::Route(false, 2, 21), Wanted::Error("vertex", None)),
     ];
     run(&rt, rt.alloc(), &rows)?;
     Ok(())
