@@ -1,6 +1,4 @@
-use Rattle.std.proofs.Common.{◌∙◌, ◌+◌, ◌-◌, ap, refl, length, List, ℕ, arith}
-use Rattle.road_model.specs.declared.rows.ArcRow.{ArcRow}
-use Rattle.road_model.specs.Graph.{Graph}
+use Rattle.std.proofs.Common.{◌∙◌, ◌+◌, ◌-◌, ap, refl, ℕ, arith}
 use Rattle.forward_star.proofs.Bound.{dists_below}
 use Rattle.tree_search.specs.Oracle.{Questions}
 use Rattle.grid_survey.specs.Summary.{step}
@@ -13,7 +11,7 @@ new-requires-clause-near c = dists_below c.args.star.now c.vertices-vertices.ens
 pub loop-query-init : goal.loop-query-init
 loop-query-init c = record {
   counted = progress_start c.args.star.now c.args.words.now c.args.queries _ _ (omega arith) c.vertices-vertices.ensures.count
-      (ap (λ (rows : List ArcRow). length rows) (c.arcs.ensures.rows ∙ ap (λ (g : Graph). g.arcs) c.graph.ensures.same)) refl refl refl refl;
+      c.arc_count.ensures refl refl refl refl;
   same = ap (λ (o : Questions). o.graph) c.in_ok-oracle.ensures;
 }
 
