@@ -1,7 +1,7 @@
 ghost use Rattle.std.specs.Prelude.{◌≡◌, IfOk};
 ghost use Rattle.contraction_order.specs.Order.{IsOrder};
 
-use crate::graphs::{self, Shape, arcs_of, drawn, graph_of, random_arcs};
+use crate::graphs::{Shape, arcs_of, drawn, graph_of, random_arcs};
 use contraction_order::{Order, order_by, order_of};
 use forward_star::Star;
 use hierarchy_build::contract;
@@ -113,35 +113,5 @@ fn large_graphs_of_odd_shapes_have_their_distances(rt: HostRuntime) -> Result<()
         let star = graph_of(rt.alloc(), vertices, &arcs)?;
         assert!(rt; is_right_at(rt.alloc(), &star, 40)?);
     }
-    Ok(())
-}
-
-// An arc of a network by its number.
-fn arc_at<N: Network>(net: &N, number: u32) -> Option<graphs::Arc> {
-    let row = net.arc(ArcNo(number))?;
-    Some((row.tail.number(), row.head.number(), row.length))
-}
-
-// A step out of a vertex: its number, its head and its length.
-fn step_at<N: Network>(net: &N, tail: u32, i: u32) -> Option<graphs::Arc> {
-    let step = net.out(Vertex(tail), i)?;
-    Some((step.arc.number(), step.head.number(), step.length))
-}
-
-#[test]
-fn a_hierarchy_gives_its_links_as_rising_arcs(rt: HostRuntime) -> Result<(), Fail> {
-    // 2 is contracted first: from 1 to 3 there is a link over it, and none back
-    let star = graph_of(rt.alloc(), 3, &[(1, 2, 1), (2, 3, 1), (3, 2, 4)])?;
-    let order = order_by(rt.alloc(), star.vertices(), &[2, 1, 3])?;
-    let hierarchy = contract(rt.alloc(), &star, order)?;
-    let (up, down) = (hierarchy.up(), hierarchy.down());
-    assert_eq!(rt; arc_at(&up, 1), Some((2, 3, 1)));
-    assert_eq!(rt; arc_at(&up, 2), Some((1, 3, 2)));
-    assert_eq!(rt; arc_at(&up, 3), None);
-    assert_eq!(rt; step_at(&up, 1, 0), Some((2, 3, 2)));
-    assert_eq!(rt; arc_at(&down, 1), Some((2, 1, 1)));
-    assert_eq!(rt; arc_at(&down, 2), Some((2, 3, 4)));
-    assert_eq!(rt; step_at(&down, 2, 1), Some((2, 3, 4)));
-    assert_eq!(rt; step_at(&down, 2, 2), None);
     Ok(())
 }
