@@ -1,5 +1,5 @@
 -- A run whose graph couldn't be loaded.
-use Rattle.std.proofs.Common.{◌≡◌, ℕ, List, [], Option, Some, None, IfSome, Result, Ok, Err, refl, sym, subst}
+use Rattle.std.proofs.Common.{◌≡◌, ◌⊎◌, ℕ, List, [], Option, Some, None, IfSome, Result, Ok, Err, refl, sym, subst, inr}
 use Rattle.road_model.specs.Graph.{Graph}
 use Rattle.road_io.specs.Told.{Told, IfTold}
 use Rattle.road_io.proofs.ToldLemmas.{IfTold_then, told_same}
@@ -14,6 +14,7 @@ use Rattle.route_server.specs.Asking.{NoQuit, lines_within}
 use Rattle.route_server.specs.Loading.{Loads, ends_as}
 use Rattle.route_server.specs.Serving.{opening, Stops, Written}
 use Rattle.route_server.specs.Answering.{Idle, AnswersGraph, AnswersFile}
+use Rattle.route_server.specs.Causes.{IsAccepted, IsUnjudged}
 use Rattle.route_server.proofs.ServingLemmas.{nothing_written}
 
 no_lines : whole_lines [] ≡ []
@@ -79,3 +80,12 @@ pub answers_no_version : (shelf a c : Option Told) (name : List ℕ) (g : Graph)
 answers_no_version None a c name g l = tt
 answers_no_version (Some told) a c name g l =
     told_same a _ (λ (text : List ℕ). told_same c _ (λ (out : List ℕ). no_version (told.files name) g text out l))
+
+-- a read fault after a graph was accepted
+accepted : (told : Told) (name : List ℕ) (file : Option (List ℕ)) (g : Graph) → told.files name ≡ file → Loads file (Ok g) → IsAccepted (Some told) name
+accepted told name None g is l = absurd l
+accepted told name (Some bytes) g is l = record { told = told; is = refl; bytes = bytes; file = is; graph = g; whole = l }
+
+pub fault_accepted : (shelf after : Option Told) (name : List ℕ) (g : Graph) (Risen : Type 0) → IfSome shelf (λ told. Loads (told.files name) (Ok g)) → Risen → IfSome shelf (λ told. IsUnjudged told name after ⊎ (IsAccepted shelf name × Risen))
+fault_accepted None after name g Risen l risen = tt
+fault_accepted (Some told) after name g Risen l risen = inr (accepted told name (told.files name) g refl l, risen)

@@ -1,9 +1,10 @@
 use Rattle.std.proofs.Common.{IfSome, ap, subst, sym}
+use Rattle.road_io.specs.Count.{HasRisen}
 use Rattle.road_io.specs.Told.{IfTold}
 use Rattle.route_server.specs.declared.status.Status.{Status}
 use Rattle.route_server.specs.Answering.{AnswersFile}
 use Rattle.route_engine.specs.Lineage.{Lineage}
-use Rattle.route_server.proofs.AnsweringLemmas.{answers_loaded, answers_no_version, answers_not_loaded}
+use Rattle.route_server.proofs.AnsweringLemmas.{answers_loaded, answers_no_version, answers_not_loaded, fault_accepted}
 use Rattle.route_server.proofs.answer.answer.Goals as goal
 
 pub returns-in-Err-clause-answers : goal.returns-in-Err-clause-answers
@@ -21,3 +22,8 @@ returns-in-Ok-from_file-clause-answers g c =
 
 pub returns-in-Err-from_file-clause-answers : goal.returns-in-Err-from_file-clause-answers
 returns-in-Err-from_file-clause-answers g c = answers_no_version _ _ _ c.args.name.now c.in-Ok.graph c.in-Ok.ensures.loads
+
+pub returns-in-Ok-from_file-clause-first_fault : goal.returns-in-Ok-from_file-clause-first_fault
+returns-in-Ok-from_file-clause-first_fault g c read =
+    fault_accepted (g.F.Source.left c.args.shelf.now) (g.F.Source.left c.read_named.new.shelf) c.args.name.now c.in-Ok.graph
+    (HasRisen (g.S.Source.faults c.args.input.now) (g.S.Source.faults c.serve.new.input)) c.in-Ok.ensures.loads (c.serve.ensures.read_cause read)
