@@ -1,8 +1,6 @@
 //! What is said on a terminal's standard error while a graph is read and made ready. In the first five seconds nothing
 //! is, so that a short start is silent.
 
-ghost use Rattle.std.specs.Prelude.{◌≡◌};
-
 use road_io::{Picked, Read, Shelf, Source};
 use std::rt::Clock;
 use std::time::Instant;
@@ -39,39 +37,50 @@ impl Watch {
     }
 }
 
-/// A shelf that says how far the reading of a large file is.
+/// How much was read, and when that was said last.
 #[derive(Drop)]
-pub struct TellingShelf<'a, F: Shelf + Drop, R: Clock + Eprint> {
-    rt: &'a R,
-    shelf: F,
+struct Meter {
     watch: Watch,
     bytes: u64,
     // the second of the last line
     said: u64,
 }
 
-impl<'a, F: Shelf + Drop, R: Clock + Eprint> TellingShelf<'a, F, R> {
-    pub fn new(rt: &'a R, watch: Watch, shelf: F) -> Self {
-        TellingShelf {
-            rt,
-            shelf,
-            watch,
-            bytes: 0,
-            said: 0,
+impl Meter {
+    /// Counts what a read gave, and says now and then how much there is.
+    fn note<R: Clock + Eprint>(&mut self, rt: &R, read: Read) {
+        if let Read::Took(count) = read {
+            self.bytes = self.bytes.saturating_add(count as u64);
         }
-    }
-
-    fn tell(&mut self, read: Read) {
-        let seconds = self.watch.seconds(self.rt);
+        let seconds = self.watch.seconds(rt);
         if seconds < self.said.saturating_add(PATIENCE) {
             return;
         }
         self.said = seconds;
         let megabytes = self.bytes / 1000000;
         let _ = match read {
-            Read::Took(_) => eprintln!(self.rt; "road: reading the graph, {megabytes} MB so far"),
-            _ => eprintln!(self.rt; "road: {megabytes} MB are read, making the graph ready"),
+            Read::Took(_) => eprintln!(rt; "road: reading the graph, {megabytes} MB so far"),
+            _ => eprintln!(rt; "road: {megabytes} MB are read, making the graph ready"),
         };
+    }
+}
+
+/// A shelf that says how far the reading of a large file is.
+#[derive(Drop)]
+pub struct TellingShelf<'a, F: Shelf + Drop, R: Clock + Eprint> {
+    rt: &'a R,
+    shelf: F,
+    meter: Meter,
+}
+
+impl<'a, F: Shelf + Drop, R: Clock + Eprint> TellingShelf<'a, F, R> {
+    pub fn new(rt: &'a R, watch: Watch, shelf: F) -> Self {
+        let meter = Meter {
+            watch,
+            bytes: 0,
+            said: 0,
+        };
+        TellingShelf { rt, shelf, meter }
     }
 }
 
@@ -84,10 +93,7 @@ impl<F: Shelf + Drop, R: Clock + Eprint> Source for TellingShelf<'_, F, R> {
 
     fn read(&mut self, room: &mut [u8]) -> Read {
         let read = self.shelf.read(room);
-        if let Read::Took(count) = read {
-            self.bytes = self.bytes.saturating_add(count as u64);
-        }
-        self.tell(read);
+        self.meter.note(self.rt, read);
         read
     }
 }
@@ -103,8 +109,8 @@ impl<F: Shelf + Drop, R: Clock + Eprint> Shelf for TellingShelf<'_, F, R> {
 pub struct TellingSource<'a, S: Source + Drop, R: Clock + Eprint> {
     rt: &'a R,
     source: S,
-    watch: Watch,
-    told: bool,
+    // until that is said
+    watch: Option<Watch>,
 }
 
 impl<'a, S: Source + Drop, R: Clock + Eprint> TellingSource<'a, S, R> {
@@ -112,20 +118,19 @@ impl<'a, S: Source + Drop, R: Clock + Eprint> TellingSource<'a, S, R> {
         TellingSource {
             rt,
             source,
-            watch,
-            told: false,
+            watch: Some(watch),
         }
     }
+}
 
-    fn tell(&mut self) {
-        if self.told {
-            return;
-        }
-        self.told = true;
-        let seconds = self.watch.seconds(self.rt);
-        if seconds >= PATIENCE {
-            let _ = eprintln!(self.rt; "road: ready for requests after {seconds} s");
-        }
+/// Says that the graph is ready, where that took long, the first time that it is called.
+fn tell_ready<R: Clock + Eprint>(rt: &R, watch: &mut Option<Watch>) {
+    let Some(watch) = watch.take() else {
+        return;
+    };
+    let seconds = watch.seconds(rt);
+    if seconds >= PATIENCE {
+        let _ = eprintln!(rt; "road: ready for requests after {seconds} s");
     }
 }
 
@@ -137,7 +142,7 @@ impl<S: Source + Drop, R: Clock + Eprint> Source for TellingSource<'_, S, R> {
     ghost picked = { λ s. S.picked s.source };
 
     fn read(&mut self, room: &mut [u8]) -> Read {
-        self.tell();
+        tell_ready(self.rt, &mut self.watch);
         self.source.read(room)
     }
 }
