@@ -140,14 +140,7 @@ fn finds_the_optimum(rt: HostRuntime) -> Result<(), Fail> {
     Ok(())
 }
 
-// The path through a vertex. Steps are kept for the paths of at most so much, if that is given.
-fn through(
-    alloc: Global,
-    name: Name,
-    radius: Option<u64>,
-    most: Option<u64>,
-    via: u32,
-) -> Result<String, Fail> {
+fn through(alloc: Global, name: Name, radius: Option<u64>, via: u32) -> Result<String, Fail> {
     let star = star_of(alloc, name)?;
     let to = vertices_of(name);
     if !is_vertex(&star, 1) {
@@ -156,10 +149,7 @@ fn through(
     if !is_vertex(&star, to) {
         return Err("no vertex to end at".into());
     }
-    let mut pair = trees(alloc, &star, Vertex(1), Vertex(to), radius)?;
-    if let Some(length) = most {
-        pair.keep_steps(length)?;
-    }
+    let pair = trees(alloc, &star, Vertex(1), Vertex(to), radius)?;
     match via_path(alloc, &pair, Vertex(via))? {
         Some(path) => text_of(alloc, path.as_slice()),
         None => Ok(format!(in alloc; "none")?),
@@ -170,28 +160,21 @@ fn through(
 #[test]
 fn finds_paths_through_vertices(rt: HostRuntime) -> Result<(), Fail> {
     let rows = [
-        (Name::A, Some(25), None, 4, " 3 4 5"),
-        (Name::A, Some(25), None, 3, " 3 4 5"),
-        (Name::A, Some(25), None, 2, " 1 2"),
-        (Name::A, Some(25), None, 5, "none"),
-        (Name::A, Some(25), None, 0, "none"),
-        (Name::A, Some(25), None, 7, "none"),
-        (Name::A, Some(16), None, 4, "none"),
-        (Name::A, None, None, 4, " 3 4 5"),
-        (Name::A, Some(u64::MAX), None, 4, " 3 4 5"),
-        (Name::D, Some(10), None, 1, " 1 4"),
-        (Name::D, Some(10), None, 4, " 3 2"),
-        (Name::OneVertex, Some(0), None, 1, ""),
-        (Name::A, Some(25), Some(0), 4, " 3 4 5"),
-        (Name::A, Some(25), Some(20), 3, " 3 4 5"),
-        (Name::A, Some(25), Some(22), 3, " 3 4 5"),
-        (Name::A, Some(25), Some(22), 2, " 1 2"),
-        (Name::A, Some(25), Some(u64::MAX), 5, "none"),
-        (Name::D, Some(10), Some(10), 1, " 1 4"),
-        (Name::D, Some(10), Some(10), 4, " 3 2"),
+        (Name::A, Some(25), 4, " 3 4 5"),
+        (Name::A, Some(25), 3, " 3 4 5"),
+        (Name::A, Some(25), 2, " 1 2"),
+        (Name::A, Some(25), 5, "none"),
+        (Name::A, Some(25), 0, "none"),
+        (Name::A, Some(25), 7, "none"),
+        (Name::A, Some(16), 4, "none"),
+        (Name::A, None, 4, " 3 4 5"),
+        (Name::A, Some(u64::MAX), 4, " 3 4 5"),
+        (Name::D, Some(10), 1, " 1 4"),
+        (Name::D, Some(10), 4, " 3 2"),
+        (Name::OneVertex, Some(0), 1, ""),
     ];
-    for (name, radius, most, via, wanted) in rows {
-        let found = through(rt.alloc(), name, radius, most, via)?;
+    for (name, radius, via, wanted) in rows {
+        let found = through(rt.alloc(), name, radius, via)?;
         assert_eq!(rt; found.as_str(), wanted);
     }
     Ok(())
@@ -275,26 +258,28 @@ fn halves(alloc: Global, star: &Star, radius: u64) -> Result<TreePair<'_>, Fail>
     Ok(TreePair::of(from, to))
 }
 
-// The labels and the arcs of each vertex, from 1 and to 6.
-static ROWS: [(u32, &str); 8] = [
-    (0, "- - - -"),
-    (1, "0 - - -"),
-    (2, "10 10 1 2"),
-    (3, "11 11 3 4"),
-    (4, "17 5 4 5"),
-    (5, "- - - -"),
-    (6, "- 0 - -"),
-    (7, "- - - -"),
-];
-
 #[test]
-fn shows_labels_and_arcs(rt: HostRuntime) -> Result<(), Fail> {
+fn shows_labels_members_and_arcs(rt: HostRuntime) -> Result<(), Fail> {
     let star = star_of(rt.alloc(), Name::A)?;
     let pair = halves(rt.alloc(), &star, 17)?;
-    for (v, wanted) in ROWS {
+    let rows = [
+        (0, "- - - -"),
+        (1, "0 - - -"),
+        (2, "10 10 1 2"),
+        (3, "11 11 3 4"),
+        (4, "17 5 4 5"),
+        (5, "- - - -"),
+        (6, "- 0 - -"),
+        (7, "- - - -"),
+    ];
+    for (v, wanted) in rows {
         let found = row_text(rt.alloc(), &pair, v)?;
         assert_eq!(rt; found.as_str(), wanted);
     }
+    let near = members_text(rt.alloc(), pair.from_members())?;
+    assert_eq!(rt; near.as_str(), " 1 2 3 4");
+    let far = members_text(rt.alloc(), pair.to_members())?;
+    assert_eq!(rt; far.as_str(), " 2 3 4 6");
     Ok(())
 }
 
@@ -303,21 +288,12 @@ fn shows_the_same_by_kept_steps(rt: HostRuntime) -> Result<(), Fail> {
     let star = star_of(rt.alloc(), Name::A)?;
     let mut pair = halves(rt.alloc(), &star, 17)?;
     pair.keep_steps(22)?;
-    for (v, wanted) in ROWS {
-        let found = row_text(rt.alloc(), &pair, v)?;
-        assert_eq!(rt; found.as_str(), wanted);
-    }
-    Ok(())
-}
-
-#[test]
-fn shows_members(rt: HostRuntime) -> Result<(), Fail> {
-    let star = star_of(rt.alloc(), Name::A)?;
-    let pair = halves(rt.alloc(), &star, 17)?;
-    let near = members_text(rt.alloc(), pair.from_members())?;
-    assert_eq!(rt; near.as_str(), " 1 2 3 4");
-    let far = members_text(rt.alloc(), pair.to_members())?;
-    assert_eq!(rt; far.as_str(), " 2 3 4 6");
+    let kept = row_text(rt.alloc(), &pair, 3)?;
+    assert_eq!(rt; kept.as_str(), "11 11 3 4");
+    let root = row_text(rt.alloc(), &pair, 1)?;
+    assert_eq!(rt; root.as_str(), "0 - - -");
+    let far = row_text(rt.alloc(), &pair, 5)?;
+    assert_eq!(rt; far.as_str(), "- - - -");
     Ok(())
 }
 

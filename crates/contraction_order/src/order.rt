@@ -14,7 +14,8 @@ pub struct Order {
 }
 
 /// An order for the vertices of a graph: by least estimated edge difference, in a quotient graph, with the vertices
-/// of each subtree together. Which order it is changes how large a hierarchy becomes, and no answer.
+/// of each subtree together, and those with very many neighbours at the end. Which order it is changes how large a
+/// hierarchy becomes, and no answer.
 ///
 /// Its memory is linear in the arcs and in the links that it makes; the time is nearly so on road networks.
 pub fn order_of(alloc: Global, star: &Star) -> Result<Order, NoMemory>
