@@ -1,5 +1,5 @@
 //! Times of a hierarchy of a graph file: its order, its shape and lengths, the lengths anew, distances between random
-//! vertices, and distances from one vertex to many. It is for measuring alone.
+//! vertices, and distances from one vertex to many, in new memory and in kept memory. It is for measuring alone.
 //!
 //! The words are the name of the file and a number of pairs. Times stand on the standard error, in microseconds; what was
 //! found stands on the standard output, so that two runs can be compared.
@@ -13,7 +13,7 @@ use contraction_order::order_of;
 use dimacs_reader::{GraphError, read_graph};
 use forward_star::Star;
 use hierarchy_build::{Hierarchy, contract, customise};
-use hierarchy_query::{HierarchyOracle, one_to_many};
+use hierarchy_query::{DistancesFrom, HierarchyOracle, one_to_many};
 use rand_core::SeedableRng;
 use rand_core::utils::NextWord;
 use rand_xoshiro::SplitMix64;
@@ -27,6 +27,9 @@ use std::{env, io};
 
 /// How many targets the distances from one vertex have.
 const TARGETS: u32 = 1000;
+
+/// How many vertices such distances are asked from in one kept memory.
+const SOURCES: u32 = 10;
 
 /// The generator of words that vertices are drawn by begins here.
 const SEED: u64 = 7;
@@ -130,6 +133,34 @@ fn ask_many(
     Ok(())
 }
 
+// The sum of the distances from some random vertices, one after another in one memory, to many others each, and how many
+// have one.
+fn ask_again(
+    rt: &HostRuntime,
+    vertices: u32,
+    hierarchy: Arc<Hierarchy, Global>,
+    words: &mut SplitMix64,
+) -> io::Result<()>
+    requires vertices { vertices ≡ (own_graph hierarchy.value).vertices }
+    requires some { 1 ≤ vertices }
+{
+    let mut known = DistancesFrom::of(rt.alloc(), hierarchy, drawn(words, vertices))?;
+    let (mut sum, mut reached) = (0u64, 0u32);
+    let begin = Instant::now(rt)?;
+    for _source in 0..SOURCES {
+        known.restart(drawn(words, vertices));
+        for _target in 0..TARGETS {
+            if let Some(distance) = known.distance(drawn(words, vertices))? {
+                sum = sum.wrapping_add(distance);
+                reached = reached.wrapping_add(1);
+            }
+        }
+    }
+    tell(rt, "again", begin)?;
+    println!(rt; "again {reached} sum {sum}")?;
+    Ok(())
+}
+
 fn main(rt: HostRuntime) -> io::Result<()> {
     let mut args = env::args(&rt)?.skip(1);
     let (Some(name), Some(pairs)) = (args.next(), args.next()) else {
@@ -146,6 +177,7 @@ fn main(rt: HostRuntime) -> io::Result<()> {
     let hierarchy = Arc::new(rt.alloc(), build(&rt, &star)?)?;
     let mut words = SplitMix64::from_seed(SEED.to_le_bytes());
     ask(&rt, vertices, hierarchy.clone()?, &mut words, pairs)?;
-    ask_many(&rt, vertices, hierarchy, &mut words)?;
+    ask_many(&rt, vertices, hierarchy.clone()?, &mut words)?;
+    ask_again(&rt, vertices, hierarchy, &mut words)?;
     Ok(())
 }
