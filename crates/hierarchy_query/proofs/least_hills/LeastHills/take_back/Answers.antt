@@ -1,7 +1,6 @@
 use Rattle.std.proofs.Common.{◌≡◌, ℕ, List, length, refl, sym, ap, ◌∙◌, subst, arith, rules}
 use Rattle.std.specs.Vec.{with_items}
 use Rattle.std.proofs.lemmas.List.{with_items_is}
-use Rattle.hierarchy_build.specs.declared.links.Links.{Links}
 use Rattle.hierarchy_query.specs.Climbs.{IsBlank, IsClimbed}
 use Rattle.hierarchy_query.specs.KnownHills.{AreUnknown}
 use Rattle.hierarchy_query.proofs.Asks.{CanClimb-up}
