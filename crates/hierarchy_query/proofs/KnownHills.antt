@@ -13,7 +13,7 @@ use Rattle.hierarchy_build.proofs.Hills.{same_or_other}
 use Rattle.hierarchy_build.proofs.Runs.{head_inside}
 use Rattle.hierarchy_query.specs.Climbs.{CanClimb, IsClimbed, IsLeastHill}
 use Rattle.hierarchy_query.specs.Asks.{up_links, down_links}
-use Rattle.hierarchy_query.specs.KnownHills.{IsKnown, AreUnknown, IsLonger, Leads, IsStacked, IsLeastOver, AreLeast}
+use Rattle.hierarchy_query.specs.KnownHills.{IsKnown, AreUnknown, AreForgotten, IsLonger, Leads, IsStacked, IsLeastOver, AreLeast}
 use Rattle.hierarchy_query.proofs.Climbs.{over_parent}
 
 -- what is known is listed at a place from i on
@@ -418,6 +418,10 @@ AreLeast-none n h s least u =
       listed = (λ x inside known. let above = u.unknown x inside in let r : HasPlace [] 0 x = absurd (omega arith) in r);
       ranks = (λ k lt. absurd (omega arith));
     }
+
+pub AreLeast-forgotten : (n : ℕ) (h : Parts) (s : ℕ) (rising least found : List ℕ) → AreForgotten n rising least found → AreLeast n h s least found
+AreLeast-forgotten n h s rising least found f =
+    subst (λ (xs : List ℕ). AreLeast n h s least xs) (sym f.none_listed) (AreLeast-none n h s least f.none_known)
 
 -- by what the code read
 pub closed_read : (n : ℕ) (h : Parts) (s : ℕ) (least found first head read : List ℕ) → first ≡ h.shape.first → head ≡ h.shape.head → read ≡ least → AreLeast n h s least found → (y z : ℕ) → y < length read → IsKnown read y → IsUp first head y z → IsKnown read z

@@ -1,6 +1,7 @@
 -- The least hills from one rank, worked out one by one.
 --   IsKnown least x      the array has the length of the least hill to x, up to no_link
 --   AreUnknown n least   it has none
+--   AreForgotten n rising least found   no rank has a rise, none is known, and none is listed
 --   IsLonger n old new   new begins with old, and is a list of ranks below n
 --   Leads first head x y   what stands in the run of x is y or stands in that of y
 --   IsStacked first head least x from found   the list has from the place `from` on the way up from x, as far as
@@ -9,13 +10,13 @@
 --   AreLeast n h s least found   each known length is that of the least hill from s; what stands above a known
 --                        rank is known, and each known rank is listed
 --   AreHills n h l       it has the least rise from its rank to each other, and such least hills
-use Rattle.std.specs.Prelude.{◌≡◌, ◌<◌, ◌≤◌, ◌+◌, ◌⊎◌, ℕ, List, length, slice_index}
+use Rattle.std.specs.Prelude.{◌≡◌, ◌<◌, ◌≤◌, ◌+◌, ◌⊎◌, ℕ, List, [], length, slice_index}
 use Rattle.hierarchy_build.specs.declared.links.Links.{Links}
 use Rattle.hierarchy_build.specs.Parts.{Parts}
 use Rattle.hierarchy_build.specs.Runs.{InSpan, IsUp, HasPlace}
 use Rattle.hierarchy_build.specs.Lengths.{no_link}
 use Rattle.hierarchy_query.specs.declared.least_hills.LeastHills.{LeastHills}
-use Rattle.hierarchy_query.specs.Climbs.{IsClimbed, IsLeastHill}
+use Rattle.hierarchy_query.specs.Climbs.{IsBlank, IsClimbed, IsLeastHill}
 use Rattle.hierarchy_query.specs.Asks.{up_links, down_links}
 
 abbrev pub IsKnown : List ℕ → ℕ → Type 0
@@ -24,6 +25,11 @@ IsKnown least x = slice_index least x ≤ no_link
 pub record AreUnknown (n : ℕ) (least : List ℕ) : Type 0 where
   pub size : length least ≡ n
   pub unknown : (x : ℕ) → x < n → no_link < slice_index least x
+
+pub record AreForgotten (n : ℕ) (rising least found : List ℕ) : Type 0 where
+  pub no_rise : IsBlank n rising
+  pub none_known : AreUnknown n least
+  pub none_listed : found ≡ []
 
 pub record IsLonger (n : ℕ) (old new : List ℕ) : Type 0 where
   pub more : length old ≤ length new

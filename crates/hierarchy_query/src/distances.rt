@@ -1,10 +1,11 @@
 //! Distances from one source, each worked out when it is first asked for.
 
-ghost use Rattle.std.specs.Prelude.{◌≡◌, IfOk};
+ghost use Rattle.std.specs.Prelude.{◌≡◌, length, IfOk, IsOk};
 ghost use Rattle.road_model.specs.Graph.{IsVertex};
 ghost use Rattle.road_model.specs.Dist.{IsDist};
 ghost use Rattle.hierarchy_build.specs.Own.{own_graph};
 
+use crate::hill_memory::HillMemory;
 use crate::least_hills::LeastHills;
 use hierarchy_build::{Hierarchy, NO_LINK};
 use road_model::{NoMemory, Vertex};
@@ -44,13 +45,44 @@ impl DistancesFrom {
         requires { IsVertex (own_graph hierarchy.value).vertices source }
         ensures { IfOk result (λ d. d ≡ record { graph = own_graph hierarchy.value; source = source }) }
     {
-        let rank = hierarchy.shape().rank.as_slice()[source.number() as usize];
-        let hills = LeastHills::of(alloc, &hierarchy, rank)?;
+        let known = DistancesFrom::in_memory(alloc, HillMemory::new(alloc), hierarchy, source)?;
+        Ok(known)
+    }
+
+    /// The same in the memory of earlier ones, also over another hierarchy. Where those were of as many vertices, it
+    /// takes the time of the links above the source, and no memory. An `Err` gives the memory back to the allocator.
+    pub fn in_memory(
+        alloc: Global,
+        memory: HillMemory,
+        hierarchy: Arc<Hierarchy, Global>,
+        source: Vertex,
+    ) -> Result<DistancesFrom, NoMemory>
+        requires { IsVertex (own_graph hierarchy.value).vertices source }
+        ensures distances { IfOk result (λ d. d ≡ record { graph = own_graph hierarchy.value; source = source }) }
+        ensures kept { memory ≡ length hierarchy.value.shape.order → IsOk result }
+    {
+        let shape = hierarchy.shape();
+        let rank = shape.rank.as_slice()[source.number() as usize];
+        let memory = memory.prepared(alloc, shape.order.len())?;
+        let hills = LeastHills::in_memory(memory, &hierarchy, rank);
         Ok(DistancesFrom {
             hierarchy,
             source,
             hills,
         })
+    }
+
+    /// Its memory, for distances from another source. It takes no memory, and the time of the distances that were worked
+    /// out and of the links above the source.
+    pub fn into_memory(self) -> HillMemory
+        ensures { result ≡ self.graph.vertices }
+    {
+        let DistancesFrom {
+            hierarchy,
+            hills,
+            ..
+        } = self;
+        hills.into_memory(&hierarchy)
     }
 
     /// The distances from another vertex in place of these. It takes no memory, and the time of the distances that

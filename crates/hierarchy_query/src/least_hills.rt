@@ -5,15 +5,12 @@ ghost use Rattle.hierarchy_build.specs.Runs.{InSpan, IsUp, IsShape, HasPlace};
 ghost use Rattle.hierarchy_build.specs.Lengths.{no_link};
 ghost use Rattle.hierarchy_query.specs.Asks.{up_links, down_links};
 ghost use Rattle.hierarchy_query.specs.Climbs.{CanRelax, IsLeastHill};
-ghost use Rattle.hierarchy_query.specs.KnownHills.{IsKnown, AreUnknown, IsLonger, IsStacked, IsLeastOver, AreLeast, AreHills};
+ghost use Rattle.hierarchy_query.specs.KnownHills.{IsKnown, AreUnknown, AreForgotten, IsLonger, IsStacked, IsLeastOver, AreLeast, AreHills};
 
 use crate::climb::{clear, climb};
+use crate::hill_memory::{HillMemory, UNKNOWN};
 use hierarchy_build::{Hierarchy, Links, NO_LINK};
 use road_model::NoMemory;
-use std::alloc::Global;
-
-// What stands in the place of a length that isn't worked out yet.
-const UNKNOWN: u64 = 18446744073709551615;
 
 /// The lengths of the least hills from one rank, as far as they were asked for.
 ///
@@ -85,20 +82,20 @@ fn least_over(down: &Links, x: usize, rise: u64, least: &[u64]) -> u64
 }
 
 impl LeastHills {
-    /// No hill from this rank worked out yet.
-    pub(crate) fn of(
-        alloc: Global,
-        hierarchy: &Hierarchy,
-        from: u32,
-    ) -> Result<LeastHills, NoMemory>
+    /// No hill from this rank worked out yet, in a memory that is laid out for these ranks. It takes the time of the
+    /// links above the rank, and no memory.
+    pub(crate) fn in_memory(memory: HillMemory, hierarchy: &Hierarchy, from: u32) -> LeastHills
         requires rank { from < length hierarchy.now.shape.order }
-        ensures hills { IfOk result (λ l. AreHills (length hierarchy.now.shape.order) hierarchy.now l) }
-        ensures from { IfOk result (λ l. l.from ≡ from) }
+        requires ranks { memory ≡ length hierarchy.now.shape.order }
+        ensures hills { AreHills (length hierarchy.now.shape.order) hierarchy.now result }
+        ensures from { result.from ≡ from }
     {
+        let HillMemory {
+            mut rising,
+            least,
+            found,
+        } = memory;
         let shape = hierarchy.shape();
-        let ranks = shape.order.len();
-        let mut rising = vec![in alloc; NO_LINK; ranks]?;
-        let least = vec![in alloc; UNKNOWN; ranks]?;
         climb(
             shape.first.as_slice(),
             shape.head.as_slice(),
@@ -106,12 +103,45 @@ impl LeastHills {
             from as usize,
             &mut rising,
         );
-        Ok(LeastHills {
+        LeastHills {
             from,
             rising,
             least,
-            found: Vec::new(alloc),
-        })
+            found,
+        }
+    }
+
+    // Makes every rank unknown again, and takes the rise from the rank back.
+    fn take_back(&mut self, hierarchy: &Hierarchy)
+        requires { AreHills (length hierarchy.now.shape.order) hierarchy.now self.old }
+        ensures { AreForgotten (length hierarchy.now.shape.order) self.new.rising.items self.new.least.items self.new.found.items }
+    {
+        let shape = hierarchy.shape();
+        let first = shape.first.as_slice();
+        let head = shape.head.as_slice();
+        forget(&self.found, &mut self.least);
+        self.found.clear();
+        clear(first, head, self.from as usize, &mut self.rising);
+    }
+
+    /// Its memory, for other hills. It takes the time of what was worked out and of the links above the rank.
+    pub(crate) fn into_memory(self, hierarchy: &Hierarchy) -> HillMemory
+        requires { AreHills (length hierarchy.now.shape.order) hierarchy.now self }
+        ensures { result ≡ length hierarchy.now.shape.order }
+    {
+        let mut hills = self;
+        hills.take_back(hierarchy);
+        let LeastHills {
+            from: _,
+            rising,
+            least,
+            found,
+        } = hills;
+        HillMemory {
+            rising,
+            least,
+            found,
+        }
     }
 
     /// The same for another rank. It takes the time of what was worked out, and of the links above both ranks.
@@ -121,15 +151,11 @@ impl LeastHills {
         ensures hills { AreHills (length hierarchy.now.shape.order) hierarchy.now self.new }
         ensures from { self.new.from ≡ from }
     {
+        self.take_back(hierarchy);
         let shape = hierarchy.shape();
-        let first = shape.first.as_slice();
-        let head = shape.head.as_slice();
-        forget(&self.found, &mut self.least);
-        self.found.clear();
-        clear(first, head, self.from as usize, &mut self.rising);
         climb(
-            first,
-            head,
+            shape.first.as_slice(),
+            shape.head.as_slice(),
             hierarchy.up_links(),
             from as usize,
             &mut self.rising,

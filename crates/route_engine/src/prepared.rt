@@ -1,6 +1,7 @@
-ghost use Rattle.std.specs.Prelude.{◌≡◌, ◌<◌, [], ◌∷◌, ◌++◌, length, IfOk};
+ghost use Rattle.std.specs.Prelude.{◌≡◌, ◌<◌, ◌^◌, [], ◌∷◌, ◌++◌, length, IfOk, IfSome};
 ghost use Rattle.road_model.specs.Graph.{IsVertex};
 ghost use Rattle.road_model.specs.Dist.{HaveSameDist};
+ghost use Rattle.road_model.specs.Canonical.{IsOptimum};
 ghost use Rattle.road_model.specs.Answers.{IsAnswer};
 ghost use Rattle.road_model.specs.Changes.{after};
 ghost use Rattle.route_engine.specs.Lineage.{graph_of, number_of};
@@ -13,7 +14,8 @@ use crate::work::Work;
 use canonical_trees::optimum_in;
 use forward_star::Star;
 use hierarchy_build::Hierarchy;
-use hierarchy_query::HierarchyOracle;
+use hierarchy_optimum::optimum_by;
+use hierarchy_query::{DistancesFrom, HierarchyOracle};
 use road_model::{
     Change, ChangeFault, GraphFile, NoMemory, Optimum, Plan, Planner, Query, Verdict, Version,
     Vertex,
@@ -22,7 +24,7 @@ use std::alloc::Global;
 use std::marker::Model;
 use std::sync::Arc;
 use tree_search::PlainOracle;
-use via_search::{plan_in, verdict_in};
+use via_search::{plan_with, verdict_with};
 
 /// The most batches that a version may have after it: its number is then the last.
 const MOST_BATCHES: usize = 1048575;
@@ -119,6 +121,31 @@ impl Prepared {
         })
     }
 
+    // The optimum, by distances over the hierarchy, or by a plain search where there is none.
+    fn optimum(
+        &self,
+        alloc: Global,
+        work: &mut Work,
+        from: Vertex,
+        to: Vertex,
+    ) -> Result<Option<Optimum>, NoMemory>
+        requires source { IsVertex (graph_of self.now).vertices from }
+        requires target { IsVertex (graph_of self.now).vertices to }
+        ensures found { IfOk result (λ best. IsOptimum (graph_of self.now) from to best) }
+        ensures short { IfOk result (λ best. IfSome best (λ o. o.length < 2 ^ 57)) }
+    {
+        let star = self.star();
+        let Some(hierarchy) = &self.hierarchy else {
+            return optimum_in(alloc, &mut work.plans.trees, star, from, to);
+        };
+        let hierarchy = Arc::try_clone(hierarchy)?;
+        let memory = work.take_hills(alloc);
+        let mut distances = DistancesFrom::in_memory(alloc, memory, hierarchy, from)?;
+        let best = optimum_by(alloc, star, &mut distances, to);
+        work.keep_hills(distances);
+        best
+    }
+
     // An oracle for the graph of this version.
     fn oracle(&self, alloc: Global, work: &mut Work) -> Result<VersionOracle<'_>, NoMemory>
         ensures { IfOk result (λ o. HaveSameDist (graph_of self.now) (asked_graph o)) }
@@ -142,8 +169,9 @@ impl Prepared {
 
     /// The plan of a query, which adds to `work.settled()` what its oracle settled.
     ///
-    /// It takes what `plan_in` takes, and its questions are answered by climbs in the hierarchy, or by plain searches
-    /// where there is none.
+    /// It takes what `plan_with` takes. The optimum is found by distances over the hierarchy, in the time of the links above
+    /// the vertices of its path and above the tails of arcs into it, and questions are answered by climbs; where there is no
+    /// hierarchy, plain searches do both.
     pub fn plan_counted(
         &self,
         alloc: Global,
@@ -155,8 +183,9 @@ impl Prepared {
         ensures { IfOk result (IsAnswer (graph_of self.now) query.now) }
     {
         let star = self.star();
+        let optimum = self.optimum(alloc, work, query.from, query.to)?;
         let mut oracle = self.oracle(alloc, work)?;
-        let plan = plan_in(alloc, &mut work.plans, star, &mut oracle, query);
+        let plan = plan_with(alloc, &mut work.plans, star, &mut oracle, query, optimum);
         work.keep(oracle);
         plan
     }
@@ -192,7 +221,7 @@ impl Planner for Prepared {
         from: Vertex,
         to: Vertex,
     ) -> Result<Option<Optimum>, NoMemory> {
-        optimum_in(alloc, &mut work.plans.trees, self.star(), from, to)
+        self.optimum(alloc, work, from, to)
     }
 
     fn plan(&self, alloc: Global, work: &mut Work, query: &Query) -> Result<Plan, NoMemory> {
@@ -207,8 +236,17 @@ impl Planner for Prepared {
         via: Vertex,
     ) -> Result<Option<Verdict>, NoMemory> {
         let star = self.star();
+        let optimum = self.optimum(alloc, work, query.from, query.to)?;
         let mut oracle = self.oracle(alloc, work)?;
-        let verdict = verdict_in(alloc, &mut work.plans, star, &mut oracle, query, via);
+        let verdict = verdict_with(
+            alloc,
+            &mut work.plans,
+            star,
+            &mut oracle,
+            query,
+            optimum,
+            via,
+        );
         work.keep(oracle);
         verdict
     }

@@ -1,5 +1,5 @@
 use crate::version_oracle::VersionOracle;
-use hierarchy_query::ClimbMemory;
+use hierarchy_query::{ClimbMemory, DistancesFrom, HillMemory};
 use road_model::Oracle;
 use std::alloc::Global;
 use std::marker::Model;
@@ -10,13 +10,14 @@ use via_search::PlanMemory;
 /// The memory of requests, kept from one to the next. It serves every version of every graph, and tells nothing of the
 /// requests before.
 ///
-/// It keeps what `PlanMemory` keeps, and for distances 16 bytes a vertex where hierarchies answer, or 8 bytes a vertex and
-/// what the largest search so far needed. A request takes memory for these only where the one before was over another
-/// number of vertices.
+/// It keeps what `PlanMemory` keeps. Where hierarchies answer, it keeps 16 bytes a vertex for questions, and 16 bytes a
+/// vertex and a little more for optima; elsewhere 8 bytes a vertex and what the largest search so far needed. A request
+/// takes memory for these only where the one before was over another number of vertices.
 #[derive(Drop)]
 pub struct Work {
     pub(crate) plans: PlanMemory,
     climbs: ClimbMemory,
+    hills: HillMemory,
     searches: SearchMemory,
     settled: u64,
 }
@@ -39,13 +40,14 @@ impl Work {
         Work {
             plans: PlanMemory::new(alloc),
             climbs: ClimbMemory::new(alloc),
+            hills: HillMemory::new(alloc),
             searches: SearchMemory::new(alloc),
             settled: 0,
         }
     }
 
     /// How many vertices the oracles of all requests have settled, or passed where they climbed, up to the last value of
-    /// its type.
+    /// its type. What is visited for an optimum isn't counted.
     pub fn settled(&self) -> u64 {
         self.settled
     }
@@ -53,6 +55,16 @@ impl Work {
     /// The memory of climbs; an empty one stays in its place.
     pub(crate) fn take_climbs(&mut self, alloc: Global) -> ClimbMemory {
         mem::replace(&mut self.climbs, ClimbMemory::new(alloc))
+    }
+
+    /// The memory of optima over hierarchies; an empty one stays in its place.
+    pub(crate) fn take_hills(&mut self, alloc: Global) -> HillMemory {
+        mem::replace(&mut self.hills, HillMemory::new(alloc))
+    }
+
+    /// Keeps the memory of the distances that an optimum was found by.
+    pub(crate) fn keep_hills(&mut self, distances: DistancesFrom) {
+        self.hills = distances.into_memory();
     }
 
     /// The memory of plain searches; an empty one stays in its place.

@@ -16,8 +16,8 @@ mod setting;
 mod verdicts;
 
 pub use memory::PlanMemory;
-pub use planning::{plan, plan_in};
-pub use verdicts::{verdict, verdict_in};
+pub use planning::{plan, plan_in, plan_with};
+pub use verdicts::{verdict, verdict_in, verdict_with};
 
 #[cfg(test)]
 mod tests;

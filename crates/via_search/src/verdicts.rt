@@ -3,6 +3,7 @@
 ghost use Rattle.std.specs.Prelude.{◌≡◌, ◌<◌, ◌^◌, IfOk, IfSome};
 ghost use Rattle.road_model.specs.Graph.{IsVertex};
 ghost use Rattle.road_model.specs.Dist.{IsDist, HaveSameDist};
+ghost use Rattle.road_model.specs.Canonical.{IsOptimum};
 ghost use Rattle.road_model.specs.Fraction.{Stretches};
 ghost use Rattle.road_model.specs.Verdicts.{IsVerdict, IsVerdictOf};
 ghost use Rattle.via_search.specs.Settings.{trees_of};
@@ -17,7 +18,7 @@ use crate::setting::Setting;
 use canonical_trees::{optimum_in, trees_in};
 use forward_star::Star;
 use plateau_finder::plateau_through;
-use road_model::{NoMemory, Oracle, Query, Verdict, Vertex};
+use road_model::{NoMemory, Optimum, Oracle, Query, Verdict, Vertex};
 use std::alloc::Global;
 
 /// A distance of the star, by an oracle that may be of another graph.
@@ -109,30 +110,33 @@ fn verdict_on_path<O: Oracle>(
     }
 }
 
-/// Why the path through a vertex is, or isn't, among the alternatives of a query: the first reason that holds, in
-/// the order of [`Verdict`]'s variants. None exactly where no walk leads from the source to the target.
+/// Why the path through a vertex is, or isn't, among the alternatives of a query whose optimum is known: the first reason
+/// that holds, in the order of [`Verdict`]'s variants. None exactly where no walk leads from the source to the target.
 ///
-/// It takes a search that stops at the target, and two questions to the oracle. Where the path is within the
-/// stretch bound, it takes also two searches as far as the path is long, in the memory that is handed in and kept for
-/// the next query, the tests of this one path, and memory linear in its arcs. An `Err` leaves the oracle as good as before.
-pub fn verdict_in<O: Oracle>(
+/// It takes two questions to the oracle. Where the path is within the stretch bound, it takes also two searches as far as
+/// the path is long, in the memory that is handed in and kept for the next query, the tests of this one path, and memory
+/// linear in its arcs. An `Err` leaves the oracle as good as before.
+pub fn verdict_with<O: Oracle>(
     alloc: Global,
     memory: &mut PlanMemory,
     star: &Star,
     oracle: &mut O,
     query: &Query,
+    optimum: Option<Optimum>,
     via: Vertex,
 ) -> Result<Option<Verdict>, NoMemory>
     requires source { IsVertex star.now.vertices query.now.from }
     requires target { IsVertex star.now.vertices query.now.to }
     requires through { IsVertex star.now.vertices via }
     requires same { HaveSameDist star.now (O.graph oracle.old) }
+    requires optimum { IsOptimum star.now query.now.from query.now.to optimum }
+    requires short { IfSome optimum (λ o. o.length < 2 ^ 57) }
     ensures verdict { IfOk result (IsVerdictOf star.now query.now via) }
     ensures same { O.graph oracle.new ≡ O.graph oracle.old }
     ensures counted { StaysCounted (O.asked oracle.old) (O.asked oracle.new) }
 {
     star.within_limits();
-    let Some(optimum) = optimum_in(alloc, &mut memory.trees, star, query.from, query.to)? else {
+    let Some(optimum) = optimum else {
         return Ok(None);
     };
     let Some(length) = length_through(star, oracle, query, via)? else {
@@ -154,6 +158,28 @@ pub fn verdict_in<O: Oracle>(
     let found = verdict_on_path(alloc, &setting, oracle, via)?;
     memory.trees = pair.into_memory();
     Ok(Some(found))
+}
+
+/// The verdict that `verdict_with` finds, with the optimum by a search that stops at the target, in the same memory.
+pub fn verdict_in<O: Oracle>(
+    alloc: Global,
+    memory: &mut PlanMemory,
+    star: &Star,
+    oracle: &mut O,
+    query: &Query,
+    via: Vertex,
+) -> Result<Option<Verdict>, NoMemory>
+    requires source { IsVertex star.now.vertices query.now.from }
+    requires target { IsVertex star.now.vertices query.now.to }
+    requires through { IsVertex star.now.vertices via }
+    requires same { HaveSameDist star.now (O.graph oracle.old) }
+    ensures verdict { IfOk result (IsVerdictOf star.now query.now via) }
+    ensures same { O.graph oracle.new ≡ O.graph oracle.old }
+    ensures counted { StaysCounted (O.asked oracle.old) (O.asked oracle.new) }
+{
+    let optimum = optimum_in(alloc, &mut memory.trees, star, query.from, query.to)?;
+    let verdict = verdict_with(alloc, memory, star, oracle, query, optimum, via)?;
+    Ok(verdict)
 }
 
 /// The same in memory of its own, which is laid out for this query alone.
