@@ -4,8 +4,6 @@
 mod printing;
 mod queries;
 
-pub use printing::put_summary;
-
 ghost use Rattle.std.specs.Prelude.{◌≡◌, ◌↔◌, ◌≤◌, IfOk, IsErrOf};
 ghost use Rattle.grid_maker.specs.declared.MakeFault.TheVariants as fault;
 ghost use Rattle.grid_maker.specs.Grid.{IsSide};
@@ -15,6 +13,7 @@ ghost use Rattle.grid_survey.specs.Summary.{IsSurvey};
 use crate::queries::{answer_all, sum_of_lengths};
 use forward_star::Star;
 use grid_maker::{MakeFault, make};
+pub use printing::put_summary;
 use road_model::Plan;
 use std::alloc::Global;
 

@@ -10,9 +10,7 @@ mod pieces;
 pub use fields::{first_byte, first_field};
 pub use line_reader::{Advance, LineReader, MOST_KEPT};
 pub use numbers::{canonical_number, number};
-pub use pieces::{
-    MOST_WRITTEN, SinkFailed, push_number, put, put_number, put_numbered, put_wide_number,
-};
+pub use pieces::{SinkFailed, push_number, put, put_number, put_numbered, put_wide_number};
 
 #[cfg(test)]
 mod tests;

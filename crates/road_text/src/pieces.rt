@@ -6,13 +6,9 @@ ghost use Rattle.std.specs.Prelude.{◌≡◌, ◌+◌, ◌≤◌, ◌++◌, dec
 ghost use Rattle.road_io.specs.Buffers.{pending};
 ghost use Rattle.road_io.specs.declared.buffers.TheConstants.{MOST_PENDING};
 ghost use Rattle.road_text.specs.Pieces.{put_of, Appends};
-ghost use Rattle.road_text.specs.declared.pieces.TheConstants.{MOST_WRITTEN};
 
 use itoa::{Buffer, Integer};
 use road_io::{Pending, Put, Sink};
-
-/// The most digits of a number of 64 bits.
-pub const MOST_WRITTEN: usize = 20;
 
 /// A write to the sink failed.
 #[derive(Clone, Copy, Debug, PartialEq, Eq)]
@@ -60,11 +56,11 @@ pub fn put_numbered<K: Sink>(sink: &mut K, word: &[u8], number: u64) -> Result<(
     put_number(sink, number)
 }
 
-/// Puts the digits of a number after what is pending.
+/// Puts the digits of a number, at most 20 of them, after what is pending.
 pub fn push_number(text: &mut Pending, number: u64)
-    requires { text.old.used + MOST_WRITTEN ≤ MOST_PENDING }
+    requires { text.old.used + 20 ≤ MOST_PENDING }
     ensures text { pending text.new ≡ pending text.old ++ decimal number }
-    ensures used { text.new.used ≤ text.old.used + MOST_WRITTEN }
+    ensures used { text.new.used ≤ text.old.used + 20 }
 {
     let mut buffer = Buffer::new();
     text.push(digits(&mut buffer, number));

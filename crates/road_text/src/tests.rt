@@ -1,6 +1,6 @@
 use crate::{
-    Advance, LineReader, SinkFailed, canonical_number, first_byte, first_field, number, push_number,
-    put, put_number, put_numbered, put_wide_number,
+    Advance, LineReader, SinkFailed, canonical_number, first_byte, first_field, number,
+    push_number, put, put_number, put_numbered, put_wide_number,
 };
 use road_io::{Gathered, MemSink, MemSource, Pending, Put};
 use std::alloc::{AllocError, Global};

@@ -190,10 +190,7 @@ fn a_verdict_has_its_word_and_its_numbers(rt: HostRuntime) {
 /// Checks the line of an error.
 fn refused(rt: &impl Abort, alloc: Global, kind: ErrorKind, wanted: &[u8]) {
     let mut sink = MemSink::new(alloc, &[]);
-    assert_eq!(rt;
-        write_reply(&mut sink, &Reply::Error(kind), None),
-        Ok(())
-    );
+    assert_eq!(rt; write_reply(&mut sink, &Reply::Error(kind), None), Ok(()));
     assert_eq!(rt; sink.bytes(), wanted);
 }
 
