@@ -5,5 +5,4 @@ pub mod Reads
 pub mod Gathering
 pub mod Fast
 pub mod Text
-pub mod Pending
 pub mod Messages

@@ -1,6 +1,6 @@
 //! One line, judged by what came before it.
 
-ghost use Rattle.std.specs.Prelude.{ℕ, List, Some, ◌≡◌, ◌≢◌, ◌<◌, ◌≤◌, ◌^◌, [], ◌∷◌, length, drop, codes, MatchOption};
+ghost use Rattle.std.specs.Prelude.{ℕ, List, Some, ◌≡◌, ◌≢◌, ◌<◌, ◌≤◌, ◌^◌, [], ◌∷◌, length, codes, MatchOption};
 ghost use Rattle.road_text.specs.Fields.{fields_of};
 ghost use Rattle.road_text.specs.Numbers.{number_of};
 ghost use Rattle.dimacs_reader.specs.declared.line.TheConstants.{MAX_LINE};
@@ -11,46 +11,30 @@ use crate::fast::arc_numbers;
 use crate::fault::GraphKind;
 use crate::line::{Judged, Problem};
 use road_model::{ArcRow, MAX_ARCS, MAX_LENGTH, MAX_VERTICES, Vertex};
-use road_text::{field, first_byte, number};
+use road_text::{first_byte, first_field, number};
 
-/// The three fields after the first one, where there are exactly three.
-fn values(line: &[u8], at: usize) -> Option<(&[u8], &[u8], &[u8])>
-    requires { at ≤ length line.now }
-    ensures { MatchOption result (length (fields_of (drop at line.now)) ≢ 3)
-        (λ found. fields_of (drop at line.now) ≡ found.0.now ∷ found.1.now ∷ found.2.now ∷ []) }
+/// The fields, where there are exactly three.
+fn values(fields: &[u8]) -> Option<(&[u8], &[u8], &[u8])>
+    ensures { MatchOption result (length (fields_of fields.now) ≢ 3)
+        (λ found. fields_of fields.now ≡ found.0.now ∷ found.1.now ∷ found.2.now ∷ []) }
 {
-    let first = field(line, at);
-    if first.0 == first.1 {
+    let (first, beyond) = first_field(fields)?;
+    let (second, beyond) = first_field(beyond)?;
+    let (third, rest) = first_field(beyond)?;
+    if first_field(rest).is_some() {
         return None;
     }
-    let second = field(line, first.1);
-    if second.0 == second.1 {
-        return None;
-    }
-    let third = field(line, second.1);
-    if third.0 == third.1 {
-        return None;
-    }
-    let fourth = field(line, third.1);
-    if fourth.0 < fourth.1 {
-        return None;
-    }
-    Some((
-        &line[first.0..first.1],
-        &line[second.0..second.1],
-        &line[third.0..third.1],
-    ))
+    Some((first, second, third))
 }
 
-/// A problem line, after its first field.
-fn judge_problem(line: &[u8], at: usize, problem: Option<Problem>) -> Judged
-    requires { at ≤ length line.now }
-    ensures { (count : ℕ) → JudgesFields problem count (codes "p" ∷ fields_of (drop at line.now)) result }
+/// A problem line, by the fields after its first one.
+fn judge_problem(fields: &[u8], problem: Option<Problem>) -> Judged
+    ensures { (count : ℕ) → JudgesFields problem count (codes "p" ∷ fields_of fields.now) result }
 {
     if problem.is_some() {
         return Judged::Wrong(GraphKind::SecondProblem);
     }
-    let Some((form, vertices, arcs)) = values(line, at) else {
+    let Some((form, vertices, arcs)) = values(fields) else {
         return Judged::Wrong(GraphKind::BadLine);
     };
     if form != b"sp".as_slice() {
@@ -71,10 +55,9 @@ fn judge_problem(line: &[u8], at: usize, problem: Option<Problem>) -> Judged
     })
 }
 
-/// An arc line, after its first field.
-fn judge_arc(line: &[u8], at: usize, problem: Option<Problem>, count: usize) -> Judged
-    requires { at ≤ length line.now }
-    ensures { JudgesFields problem count (codes "a" ∷ fields_of (drop at line.now)) result }
+/// An arc line, by the fields after its first one.
+fn judge_arc(fields: &[u8], problem: Option<Problem>, count: usize) -> Judged
+    ensures { JudgesFields problem count (codes "a" ∷ fields_of fields.now) result }
 {
     let Some(Problem { vertices, arcs }) = problem else {
         return Judged::Wrong(GraphKind::NoProblem);
@@ -82,7 +65,7 @@ fn judge_arc(line: &[u8], at: usize, problem: Option<Problem>, count: usize) -> 
     if count >= arcs as usize {
         return Judged::Wrong(GraphKind::TooManyArcs);
     }
-    let Some((tail, head, length)) = values(line, at) else {
+    let Some((tail, head, length)) = values(fields) else {
         return Judged::Wrong(GraphKind::BadLine);
     };
     let (Some(tail), Some(head), Some(length)) = (number(tail), number(head), number(length)) else {
@@ -116,15 +99,13 @@ fn judge_row(vertices: u64, tail: u64, head: u64, length: u64) -> Judged
 fn judge_fields(line: &[u8], problem: Option<Problem>, count: usize) -> Judged
     ensures { JudgesFields problem count (fields_of line.now) result }
 {
-    let word = field(line, 0);
-    if word.0 == word.1 {
+    let Some((word, fields)) = first_field(line) else {
         return Judged::Nothing;
-    }
-    let name = &line[word.0..word.1];
-    if name == b"p".as_slice() {
-        judge_problem(line, word.1, problem)
-    } else if name == b"a".as_slice() {
-        judge_arc(line, word.1, problem, count)
+    };
+    if word == b"p".as_slice() {
+        judge_problem(fields, problem)
+    } else if word == b"a".as_slice() {
+        judge_arc(fields, problem, count)
     } else {
         Judged::Wrong(GraphKind::BadLine)
     }

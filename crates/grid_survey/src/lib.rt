@@ -8,13 +8,13 @@ ghost use Rattle.std.specs.Prelude.{◌≡◌, ◌↔◌, ◌≤◌, IfOk, IsErr
 ghost use Rattle.grid_maker.specs.declared.MakeFault.TheVariants as fault;
 ghost use Rattle.grid_maker.specs.Grid.{IsSide};
 ghost use Rattle.grid_survey.specs.Counting.{Counts, HasRoom};
-ghost use Rattle.grid_survey.specs.Summary.{IsSurvey, summary_text};
+ghost use Rattle.grid_survey.specs.Summary.{IsSurvey};
 
-use crate::printing::push_line;
 use crate::queries::{answer_all, sum_of_lengths};
 use forward_star::Star;
 use grid_maker::{MakeFault, make};
-use road_model::{NoMemory, Plan};
+pub use printing::put_summary;
+use road_model::Plan;
 use std::alloc::Global;
 
 /// What a survey counts. Lengths are in the graph's whole units.
@@ -32,37 +32,6 @@ pub struct Summary {
 }
 
 impl Summary {
-    /// Its four lines: the graph's vertices and arcs, the queries and how many of them have no path, the paths and the
-    /// sum of their lengths, and `end`.
-    pub fn text(&self, alloc: Global) -> Result<Vec<u8>, NoMemory>
-        ensures { IfOk result (λ text. text.items ≡ summary_text self.now) }
-    {
-        let mut text = Vec::new(alloc);
-        push_line(
-            &mut text,
-            b"graph vertices ",
-            self.vertices.into(),
-            b" arcs ",
-            self.arcs.into(),
-        )?;
-        push_line(
-            &mut text,
-            b"queries ",
-            self.queries.into(),
-            b" none ",
-            self.without_path.into(),
-        )?;
-        push_line(
-            &mut text,
-            b"routes ",
-            self.routes.into(),
-            b" length ",
-            self.length,
-        )?;
-        text.extend_from_slice(b"end\n")?;
-        Ok(text)
-    }
-
     // Counts one more answer.
     fn count(&mut self, plan: &Plan)
         requires { HasRoom self.old plan.now }

@@ -1,6 +1,7 @@
 ghost use Rattle.std.specs.Prelude.{◌≤◌};
 
 use super::*;
+use road_io::Gathered;
 use std::str;
 use std::test::Fail;
 
@@ -9,8 +10,9 @@ fn text_of(alloc: Global, seed: u64, width: u32, height: u32, queries: u32) -> R
     requires { queries ≤ 10000 }
 {
     let summary = survey(alloc, seed, width, height, queries)?;
-    let bytes = summary.text(alloc)?;
-    let text = str::from_utf8(bytes.as_slice())?;
+    let mut lines = Gathered::new(alloc);
+    put_summary(&mut lines, &summary)?;
+    let text = str::from_utf8(lines.bytes())?;
     Ok(String::from_str(alloc, text)?)
 }
 

@@ -1,4 +1,3 @@
-pub mod PieceLemmas
 pub mod ItemLemmas
 pub mod RatioLemmas
 pub mod RequestLemmas

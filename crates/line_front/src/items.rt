@@ -3,12 +3,22 @@
 ghost use Rattle.std.specs.Prelude.{◌≡◌, ◌+◌, ◌≤◌, length, Some};
 ghost use Rattle.road_model.specs.declared.answer.Plan.TheVariants.{Found};
 ghost use Rattle.line_front.specs.Items.{optimum_part, routes_text};
-ghost use Rattle.line_front.specs.Pieces.{put_of, Appends};
-ghost use Rattle.line_front.specs.Replies.{head_text, items_text, line_text, optimum_text, route_text, tail_text};
+ghost use Rattle.road_text.specs.Pieces.{put_of, Appends};
+ghost use Rattle.line_front.specs.Replies.{arcs_text, head_text, items_text, line_text, optimum_text, route_text, tail_text};
 
-use crate::pieces::{SinkFailed, put, put_arcs, put_numbered};
 use road_io::Sink;
-use road_model::{Optimum, PageSpan, Route};
+use road_model::{ArcNo, Optimum, PageSpan, Route};
+use road_text::{SinkFailed, put, put_numbered};
+
+/// Writes the numbers of a walk, each after a space.
+fn put_arcs<K: Sink>(sink: &mut K, arcs: &[ArcNo]) -> Result<(), SinkFailed>
+    ensures { Appends K.written K.faults (arcs_text arcs.now) sink.old sink.new (put_of result) }
+{
+    for arc in arcs {
+        put_numbered(sink, b" ", u64::from(arc.number()))?;
+    }
+    Ok(())
+}
 
 /// Writes the line of an optimum.
 pub fn put_optimum<K: Sink>(sink: &mut K, optimum: &Optimum) -> Result<(), SinkFailed>

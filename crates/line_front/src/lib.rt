@@ -1,11 +1,9 @@
 //! Requests and replies as lines of text.
 #![tactic(auto)]
 
-mod fields;
 mod items;
 mod laws;
 mod options;
-mod pieces;
 mod replies;
 mod requests;
 

@@ -4,8 +4,7 @@ ghost use Rattle.std.specs.Prelude.{◌≡◌, position};
 ghost use Rattle.road_text.specs.Fields.{fields_of};
 ghost use Rattle.line_front.specs.Requests.{fresh, is_slash, options_of, ratio_of, with_option};
 
-use crate::fields::first_field;
-use road_text::number;
+use road_text::{first_field, number};
 
 /// The options that a line gives, each at most once.
 #[derive(Clone, Copy, Debug, PartialEq, Eq)]

@@ -1,20 +1,27 @@
 //! Replies, written to a sink.
 
-ghost use Rattle.std.specs.Prelude.{◌≡◌, ◌≤◌, ◌++◌, codes};
+ghost use Rattle.std.specs.Prelude.{◌++◌, codes};
 ghost use Rattle.std.specs.Option.{option_copied};
-ghost use Rattle.road_io.specs.Sink.{Writes};
-ghost use Rattle.road_io.specs.Count.{HasRisen};
 ghost use Rattle.route_ranking.specs.Cursors.{cursor_text};
-ghost use Rattle.line_front.specs.Pieces.{put_of, Appends};
+ghost use Rattle.road_text.specs.Pieces.{put_of, Appends};
 ghost use Rattle.line_front.specs.Replies.{HasItems, HasSpan, best_text, end_text, error_text, items_text, line_text};
 ghost use Rattle.line_front.specs.Replies.{more_text, numbered, ok_text, page_text, pair_text, reply_text, spaced_text};
 ghost use Rattle.line_front.specs.Replies.{verdict_text, why_text};
 
 use crate::items::{put_items, put_optimum};
-use crate::pieces::{SinkFailed, put, put_numbered, put_numbered_line};
-use road_io::{Put, Sink};
+use road_io::Sink;
 use road_model::{Cursor, ErrorKind, Optimum, PageSpan, Pair, Plan, Reply, Verdict};
+use road_text::{SinkFailed, put, put_numbered};
 use route_ranking::write_cursor;
+
+/// Writes a line of a word with a number after it.
+fn put_numbered_line<K: Sink>(sink: &mut K, word: &[u8], number: u64) -> Result<(), SinkFailed>
+    ensures { Appends K.written K.faults (line_text (numbered word.now number))
+        sink.old sink.new (put_of result) }
+{
+    put_numbered(sink, word, number)?;
+    put(sink, b"\n")
+}
 
 fn put_ok<K: Sink>(sink: &mut K, number: u64) -> Result<(), SinkFailed>
     ensures { Appends K.written K.faults (ok_text number) sink.old sink.new (put_of result) }
@@ -50,23 +57,13 @@ fn put_shown<K: Sink>(sink: &mut K, span: &PageSpan, shown: Option<&Plan>) -> Re
     }
 }
 
-/// Writes the text of a cursor.
-fn put_cursor<K: Sink>(sink: &mut K, cursor: &Cursor) -> Result<(), SinkFailed>
-    ensures { Appends K.written K.faults (cursor_text cursor.now) sink.old sink.new (put_of result) }
-{
-    match write_cursor(sink, cursor) {
-        Put::Done => Ok(()),
-        Put::Failed => Err(SinkFailed),
-    }
-}
-
 /// Writes the line of the cursor of the next page.
 fn put_cursor_line<K: Sink>(sink: &mut K, cursor: &Cursor) -> Result<(), SinkFailed>
     ensures { Appends K.written K.faults (line_text (codes "more " ++ cursor_text cursor.now))
         sink.old sink.new (put_of result) }
 {
     put(sink, b"more ")?;
-    put_cursor(sink, cursor)?;
+    write_cursor(sink, cursor)?;
     put(sink, b"\n")
 }
 
@@ -180,7 +177,15 @@ fn put_error<K: Sink>(sink: &mut K, kind: ErrorKind) -> Result<(), SinkFailed>
     put(sink, b"\n")
 }
 
-fn put_reply<K: Sink>(sink: &mut K, reply: &Reply, shown: Option<&Plan>) -> Result<(), SinkFailed>
+/// Writes the lines of a reply, piece by piece; where a sink is slow with small pieces, hand in one that gathers them.
+/// A page shows the items of the plan beside it, and with any other reply the plan means nothing.
+///
+/// It takes no memory. Where it fails a prefix of the lines is written.
+pub fn write_reply<K: Sink>(
+    sink: &mut K,
+    reply: &Reply,
+    shown: Option<&Plan>,
+) -> Result<(), SinkFailed>
     requires { HasItems reply.now (option_copied shown) }
     ensures { Appends K.written K.faults (reply_text reply.now (option_copied shown.entry))
         sink.old sink.new (put_of result) }
@@ -198,23 +203,6 @@ fn put_reply<K: Sink>(sink: &mut K, reply: &Reply, shown: Option<&Plan>) -> Resu
         Reply::Staged { count } => put_numbered_line(sink, b"staged ", *count),
         Reply::Published { number } => put_numbered_line(sink, b"published ", *number),
         Reply::Error(kind) => put_error(sink, *kind),
-    }
-}
-
-/// Writes the lines of a reply, piece by piece; where a sink is slow with small pieces, hand in one that gathers them.
-/// A page shows the items of the plan beside it, and with any other reply the plan means nothing.
-///
-/// It takes no memory. After `Failed` a prefix of the lines is written.
-pub fn write_reply<K: Sink>(sink: &mut K, reply: &Reply, shown: Option<&Plan>) -> Put
-    requires { HasItems reply.now (option_copied shown) }
-    ensures writes { Writes (reply_text reply.now (option_copied shown.entry))
-        (K.written sink.old) (K.written sink.new) result }
-    ensures count { K.faults sink.old ≤ K.faults sink.new }
-    ensures cause { result ≡ Put.Failed → HasRisen (K.faults sink.old) (K.faults sink.new) }
-{
-    match put_reply(sink, reply, shown) {
-        Ok(()) => Put::Done,
-        Err(SinkFailed) => Put::Failed,
     }
 }
 

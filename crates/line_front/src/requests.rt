@@ -16,10 +16,9 @@ ghost use Rattle.line_front.specs.Requests.{
   why_of,
 };
 
-use crate::fields::first_field;
 use crate::options::{Options, read_options};
 use road_model::{CursorQuery, ErrorKind, Request};
-use road_text::number;
+use road_text::{first_field, number};
 use route_ranking::read_cursor;
 
 /// The longest line that can be a request, its end not counted.

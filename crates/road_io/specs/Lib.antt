@@ -8,3 +8,4 @@ pub mod Memory
 pub mod MemForms
 pub mod SureForms
 pub mod Adapters
+pub mod Buffers

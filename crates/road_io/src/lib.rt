@@ -7,6 +7,7 @@
 #![tactic(auto)]
 
 mod adapters;
+mod buffers;
 mod calls;
 mod memory;
 mod reading;
@@ -16,6 +17,7 @@ mod texts;
 mod writing;
 
 pub use adapters::{FileShelf, StdinSource, StdoutSink};
+pub use buffers::{Gathered, MOST_PENDING, Pending};
 pub use memory::{MemShelf, MemSink, MemSource};
 pub use reading::{Read, Source};
 pub use shelves::{Picked, Shelf};

@@ -66,6 +66,24 @@ fn a_sink_keeps_what_it_took(rt: HostRuntime) -> Result<(), Fail> {
     Ok(())
 }
 
+#[test]
+fn the_buffers_hand_on_what_they_keep(rt: HostRuntime) {
+    let mut gathered = Gathered::new(rt.alloc());
+    assert_eq!(rt; gathered.write(b"ab"), Put::Done);
+    assert_eq!(rt; gathered.write(b"c"), Put::Done);
+    assert_eq!(rt; gathered.bytes(), b"abc".as_slice());
+    gathered.clear();
+    assert_eq!(rt; gathered.bytes().len(), 0);
+    let mut sink = MemSink::new(rt.alloc(), &[1]);
+    let mut pending = Pending::new();
+    pending.push(b"abc");
+    assert_eq!(rt; pending.make_room(&mut sink, MOST_PENDING - 3), Put::Done);
+    assert_eq!(rt; sink.bytes().len(), 0);
+    assert_eq!(rt; pending.make_room(&mut sink, MOST_PENDING - 2), Put::Done);
+    assert_eq!(rt; sink.bytes(), b"abc".as_slice());
+    assert_eq!(rt; pending.send(&mut sink), Put::Failed);
+}
+
 /// Two files, and a second one of the first name, which nothing reaches.
 const FILES: [NamedFile<'static>; 3] = [
     NamedFile {

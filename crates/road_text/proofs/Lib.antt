@@ -4,3 +4,4 @@ pub mod LineLemmas
 pub mod HeldLemmas
 pub mod SkipLemmas
 pub mod BeyondLemmas
+pub mod PieceLemmas

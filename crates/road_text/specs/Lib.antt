@@ -4,3 +4,4 @@ pub mod Numbers
 pub mod Reader
 pub mod Filling
 pub mod Behind
+pub mod Pieces

@@ -1,6 +1,6 @@
 //! Fields: runs of bytes that are neither a space nor a tab.
 
-ghost use Rattle.std.specs.Prelude.{◌≡◌, ◌<◌, ◌≤◌, ◌∷◌, [], true, false, length, drop, slice_index, slice_range};
+ghost use Rattle.std.specs.Prelude.{◌≡◌, ◌<◌, ◌≤◌, ◌∷◌, [], true, false, length, drop, slice_index, slice_range, IfSome, MatchOption};
 ghost use Rattle.std.specs.List.{AllByRecursion};
 ghost use Rattle.road_text.specs.Fields.{is_blank, fields_of, first_byte};
 
@@ -11,16 +11,14 @@ fn is_blank(byte: u8) -> bool
     byte == b' ' || byte == b'\t'
 }
 
-/// Where the first byte from `at` on stands that isn't blank, or the line's length.
-fn skip_blanks(line: &[u8], at: usize) -> usize
-    requires { at ≤ length line.now }
-    ensures low { at ≤ result }
+/// Where the first byte stands that isn't blank, or the line's length.
+fn skip_blanks(line: &[u8]) -> usize
     ensures high { result ≤ length line.now }
-    ensures same { fields_of (drop result line.now) ≡ fields_of (drop at line.now) }
-    ensures first { first_byte (drop result line.now) ≡ first_byte (drop at line.now) }
+    ensures same { fields_of (drop result line.now) ≡ fields_of line.now }
+    ensures first { first_byte (drop result line.now) ≡ first_byte line.now }
     ensures stops { result < length line.now → is_blank (slice_index line.now result) ≡ false }
 {
-    for i in at..line.len() {
+    for i in 0..line.len() {
         if !is_blank(line[i]) {
             return i;
         }
@@ -44,28 +42,27 @@ fn skip_field(line: &[u8], at: usize) -> usize
     line.len()
 }
 
-/// The range of the first field of the line from `at` on, or twice the line's length where there is none.
+/// The first field of the line, and the line after it, where it has a field.
 ///
 /// It looks once at each byte up to the field's end.
-pub fn field(line: &[u8], at: usize) -> (usize, usize)
-    requires { at ≤ length line.now }
-    ensures low { at ≤ result.0 }
-    ensures order { result.0 ≤ result.1 }
-    ensures high { result.1 ≤ length line.now }
-    ensures found { result.0 < result.1 → fields_of (drop at line.now)
-        ≡ slice_range line.now result.0 result.1 ∷ fields_of (drop result.1 line.now) }
-    ensures none { result.0 ≡ result.1 → fields_of (drop at line.now) ≡ [] }
+pub fn first_field(line: &[u8]) -> Option<(&[u8], &[u8])>
+    ensures cut { MatchOption result (fields_of line.now ≡ [])
+        (λ found. fields_of line.now ≡ found.0.now ∷ fields_of found.1.now) }
+    ensures shorter { IfSome result (λ found. length found.1.now < length line.now) }
 {
-    let from = skip_blanks(line, at);
+    let from = skip_blanks(line);
     let to = skip_field(line, from);
-    (from, to)
+    if from == to {
+        return None;
+    }
+    Some((&line[from..to], &line[to..]))
 }
 
 /// The first byte of the line that isn't blank.
 pub fn first_byte(line: &[u8]) -> Option<u8>
     ensures { result ≡ first_byte line.now }
 {
-    let from = skip_blanks(line, 0);
+    let from = skip_blanks(line);
     if from < line.len() {
         Some(line[from])
     } else {

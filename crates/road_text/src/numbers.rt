@@ -1,10 +1,7 @@
 //! Numbers as texts write them.
 
-ghost use Rattle.std.specs.Prelude.{◌≡◌, ◌++◌, OnOk, OnErr, decimal};
+ghost use Rattle.std.specs.Prelude.{◌≡◌};
 ghost use Rattle.road_text.specs.Numbers.{number_of, canonical_of};
-
-use itoa::Buffer;
-use std::alloc::AllocError;
 
 /// The most digits that a number may have.
 const MOST_DIGITS: usize = 19;
@@ -34,13 +31,4 @@ pub fn canonical_number(bytes: &[u8]) -> Option<u64>
         return None;
     }
     number(bytes)
-}
-
-/// Appends the digits of the number, at most 20 of them. Where memory is refused nothing is appended.
-pub fn push_number(out: &mut Vec<u8>, n: u64) -> Result<(), AllocError>
-    ensures ok { OnOk result (out.new.items ≡ out.old.items ++ decimal n) }
-    ensures err { OnErr result (out.new.items ≡ out.old.items) }
-{
-    let mut buffer = Buffer::new();
-    out.extend_from_slice(buffer.format(n).as_bytes())
 }

@@ -1,5 +1,8 @@
-use crate::{Advance, LineReader, canonical_number, field, first_byte, number, push_number};
-use road_io::MemSource;
+use crate::{
+    Advance, LineReader, SinkFailed, canonical_number, first_byte, first_field, number,
+    push_number, put, put_number, put_numbered, put_wide_number,
+};
+use road_io::{Gathered, MemSink, MemSource, Pending, Put};
 use std::alloc::{AllocError, Global};
 use std::test::Fail;
 
@@ -118,12 +121,12 @@ fn tells_of_a_failed_read(rt: HostRuntime) -> Result<(), Fail> {
 #[test]
 fn keeps_lines_that_cross_pieces(rt: HostRuntime) -> Result<(), Fail> {
     // 30000 lines of 9 bytes cross the buffer's pieces at each place of a line.
-    let mut text = Vec::new(rt.alloc());
+    let mut text = Gathered::new(rt.alloc());
     for i in 0..30000u64 {
-        push_number(&mut text, 10000000 + i)?;
-        text.push(b'\n')?;
+        put_number(&mut text, 10000000 + i)?;
+        put(&mut text, b"\n")?;
     }
-    let mut source = MemSource::new(text.as_slice(), 0, &[]);
+    let mut source = MemSource::new(text.bytes(), 0, &[]);
     let mut reader = LineReader::new(rt.alloc(), 8, 270000)?;
     for i in 0..30000u64 {
         assert!(rt; reader.advance(&mut source) == Advance::Whole);
@@ -135,19 +138,15 @@ fn keeps_lines_that_cross_pieces(rt: HostRuntime) -> Result<(), Fail> {
 
 #[test]
 fn finds_fields(rt: HostRuntime) {
-    let rows: [(&[u8], usize, (usize, usize)); 7] = [
-        (b"", 0, (0, 0)),
-        (b" \t", 0, (2, 2)),
-        (b"ab", 0, (0, 2)),
-        (b" \tab\r c", 0, (2, 5)),
-        (b" ab\tc", 3, (4, 5)),
-        (b"ab ", 2, (3, 3)),
-        (b"ab", 1, (1, 2)),
+    let rows: [(&[u8], Option<(&[u8], &[u8])>); 5] = [
+        (b"", None),
+        (b" \t", None),
+        (b"ab", Some((b"ab", b""))),
+        (b" \tab\r c", Some((b"ab\r", b" c"))),
+        (b"ab ", Some((b"ab", b" "))),
     ];
-    for (line, at, wanted) in rows {
-        if at <= line.len() {
-            assert_eq!(rt; field(line, at), wanted, "{line:?}");
-        }
+    for (line, wanted) in rows {
+        assert_eq!(rt; first_field(line), wanted, "{line:?}");
     }
     assert_eq!(rt; first_byte(b" \tc"), Some(b'c'));
     assert_eq!(rt; first_byte(b" \t"), None);
@@ -179,12 +178,27 @@ fn reads_numbers(rt: HostRuntime) {
 }
 
 #[test]
-fn writes_numbers(rt: HostRuntime) -> Result<(), Fail> {
-    let mut out = Vec::new(rt.alloc());
-    for n in [0, 7, 18446744073709551615] {
-        push_number(&mut out, n)?;
-        out.push(b' ')?;
-    }
-    assert_eq!(rt; out.as_slice(), b"0 7 18446744073709551615 ".as_slice());
+fn writes_texts_piece_by_piece(rt: HostRuntime) -> Result<(), Fail> {
+    let mut sink = MemSink::new(rt.alloc(), &[4]);
+    put(&mut sink, b"0 ")?;
+    put_number(&mut sink, 18446744073709551615)?;
+    put_numbered(&mut sink, b" then ", 7)?;
+    assert_eq!(rt; put_wide_number(&mut sink, 0), Err(SinkFailed));
+    put_wide_number(&mut sink, 340282366920938463463374607431768211455)?;
+    assert_eq!(rt;
+        sink.bytes(),
+        b"0 18446744073709551615 then 7340282366920938463463374607431768211455".as_slice()
+    );
     Ok(())
+}
+
+#[test]
+fn puts_numbers_together(rt: HostRuntime) {
+    let mut text = Pending::new();
+    push_number(&mut text, 0);
+    text.push(b" ");
+    push_number(&mut text, 18446744073709551615);
+    let mut sink = MemSink::new(rt.alloc(), &[]);
+    assert_eq!(rt; text.send(&mut sink), Put::Done);
+    assert_eq!(rt; sink.bytes(), b"0 18446744073709551615".as_slice());
 }

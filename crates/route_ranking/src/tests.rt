@@ -1,6 +1,7 @@
 use crate::{page, read_cursor, write_cursor};
-use road_io::{MemSink, Put};
+use road_io::MemSink;
 use road_model::{Cursor, CursorQuery, PageSpan};
+use road_text::SinkFailed;
 use std::test::Fail;
 
 /// The second page of one item each, of the usual query from vertex 1 to vertex 6 in version 1.
@@ -18,7 +19,7 @@ fn cursors_are_read_and_written(rt: HostRuntime) -> Result<(), Fail> {
     let text = b"1.1.6.4.5.1.4.1.4.1.1";
     assert_eq!(rt; read_cursor(text), Some(second_page()));
     let mut sink = MemSink::new(rt.alloc(), &[]);
-    assert_eq!(rt; write_cursor(&mut sink, &second_page()), Put::Done);
+    assert_eq!(rt; write_cursor(&mut sink, &second_page()), Ok(()));
     assert_eq!(rt; sink.bytes(), text.as_slice());
     let nineteen = read_cursor(b"9999999999999999999.1.6.4.5.1.4.1.4.1.0").ok_or("none")?;
     assert_eq!(rt; nineteen.version, 9_999_999_999_999_999_999);
@@ -46,9 +47,9 @@ fn other_texts_are_no_cursors(rt: HostRuntime) {
 
 #[test]
 fn a_failed_write_is_told(rt: HostRuntime) {
-    let mut sink = MemSink::new(rt.alloc(), &[0]);
-    assert_eq!(rt; write_cursor(&mut sink, &second_page()), Put::Failed);
-    assert_eq!(rt; sink.bytes().len(), 0);
+    let mut sink = MemSink::new(rt.alloc(), &[3]);
+    assert_eq!(rt; write_cursor(&mut sink, &second_page()), Err(SinkFailed));
+    assert_eq!(rt; sink.bytes(), b"1.1".as_slice());
 }
 
 #[test]

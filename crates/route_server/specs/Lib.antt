@@ -8,7 +8,6 @@ pub mod Input
 pub mod Statuses
 pub mod Loading
 pub mod Answering
-pub mod Buffers
 pub mod Sessions
 pub mod Saying
 pub mod Causes

@@ -1,9 +1,10 @@
 //! The commands that say what a graph file holds.
 
-ghost use Rattle.std.specs.Prelude.{◌≡◌, ◌≢◌, ◌≤◌, IfOk, IfSome};
+ghost use Rattle.std.specs.Prelude.{◌≡◌, ◌≢◌, ◌≤◌, IfSome};
 ghost use Rattle.road_io.specs.Told.{IfTold};
 ghost use Rattle.road_io.specs.Count.{HasRisen};
 ghost use Rattle.road_io.specs.Shelf.{with_name};
+ghost use Rattle.road_text.specs.Pieces.{put_of, Appends};
 ghost use Rattle.dimacs_reader.specs.declared.fault.GraphFault.{GraphFault};
 ghost use Rattle.route_server.specs.Giving.{GivesOf, IsCheck, IsPrint, check_text, ends_by};
 ghost use Rattle.route_server.specs.Causes.{HasFault, IsAccepted, IsEarly, IsUnjudged, IsWhole};
@@ -11,9 +12,9 @@ ghost use Rattle.route_server.specs.Causes.{HasFault, IsAccepted, IsEarly, IsUnj
 use crate::load::{ends_as, read_named};
 use crate::status::Status;
 use dimacs_reader::write_graph;
-use road_io::{Put, Shelf, Sink};
-use road_model::{GraphFile, NoMemory};
-use road_text::push_number;
+use road_io::{Gathered, Put, Shelf, Sink};
+use road_model::GraphFile;
+use road_text::{SinkFailed, put, put_number, put_numbered};
 use std::alloc::Global;
 
 /// How a run ends with its last write.
@@ -26,17 +27,14 @@ pub fn ends_by(put: Put) -> Status
     }
 }
 
-/// The line that says how large a graph is.
-fn check_line(alloc: Global, graph: &GraphFile) -> Result<Vec<u8>, NoMemory>
-    ensures { IfOk result (λ line. line.items ≡ check_text graph.now) }
+/// Writes the line that says how large a graph is.
+fn put_check<K: Sink>(sink: &mut K, graph: &GraphFile) -> Result<(), SinkFailed>
+    ensures { Appends K.written K.faults (check_text graph.now) sink.old sink.new (put_of result) }
 {
-    let mut line = Vec::new(alloc);
-    line.extend_from_slice(b"graph vertices ")?;
-    push_number(&mut line, u64::from(graph.vertices()))?;
-    line.extend_from_slice(b" arcs ")?;
-    push_number(&mut line, graph.arcs().len() as u64)?;
-    line.push(b'\n')?;
-    Ok(line)
+    put_numbered(sink, b"graph vertices ", u64::from(graph.vertices()))?;
+    put(sink, b" arcs ")?;
+    put_number(sink, graph.arcs().len() as u64)?;
+    put(sink, b"\n")
 }
 
 /// Reads a graph file, and says how large its graph is.
@@ -67,9 +65,10 @@ pub fn check<F: Shelf, K: Sink>(alloc: Global, name: &str, shelf: &mut F, output
         Ok(graph) => graph,
         Err(error) => return ends_as(error),
     };
-    match check_line(alloc, &graph) {
-        Ok(line) => ends_by(output.write(&line)),
-        Err(_) => Status::NoMemory,
+    let mut line = Gathered::new(alloc);
+    match put_check(&mut line, &graph) {
+        Ok(()) => ends_by(output.write(line.bytes())),
+        Err(SinkFailed) => Status::NoMemory,
     }
 }
 

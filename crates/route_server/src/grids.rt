@@ -13,8 +13,10 @@ use crate::graphs::ends_by;
 use crate::status::Status;
 use crate::words::Grid;
 use dimacs_reader::write_graph;
-use road_io::Sink;
+use grid_survey::put_summary;
+use road_io::{Gathered, Sink};
 use road_model::GraphFile;
+use road_text::SinkFailed;
 use std::alloc::Global;
 
 /// Writes a graph in the canonical form.
@@ -76,8 +78,9 @@ pub fn survey<K: Sink>(alloc: Global, grid: Grid, queries: u32, output: &mut K) 
     let Ok(summary) = grid_survey::survey(alloc, grid.seed, grid.width, grid.height, queries) else {
         return Status::NoMemory;
     };
-    match summary.text(alloc) {
-        Ok(text) => ends_by(output.write(&text)),
-        Err(_) => Status::NoMemory,
+    let mut text = Gathered::new(alloc);
+    match put_summary(&mut text, &summary) {
+        Ok(()) => ends_by(output.write(text.bytes())),
+        Err(SinkFailed) => Status::NoMemory,
     }
 }

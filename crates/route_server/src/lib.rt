@@ -4,7 +4,6 @@
 mod answer;
 mod answering;
 mod command;
-mod gathered;
 mod graphs;
 mod grids;
 mod input;

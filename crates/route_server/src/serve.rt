@@ -11,14 +11,13 @@ ghost use Rattle.route_server.specs.Asking.{is_quit};
 ghost use Rattle.route_server.specs.Causes.{IsLong, IsRefusal, IsWhole};
 
 use crate::answering::{Said, say};
-use crate::gathered::Gathered;
 use crate::input::{NextLine, next_line};
 use crate::session::Session;
 use crate::status::Status;
 use line_front::{MAX_LINE, Parsed, write_reply};
-use road_io::{Put, Sink, Source};
+use road_io::{Gathered, Put, Sink, Source};
 use road_model::{Plan, Reply, Version};
-use road_text::LineReader;
+use road_text::{LineReader, SinkFailed};
 use std::alloc::Global;
 
 /// The most bytes of input.
@@ -50,11 +49,11 @@ fn send<K: Sink>(
 {
     gathered.clear();
     match write_reply(gathered, reply, shown) {
-        Put::Done => match output.write(gathered.bytes()) {
+        Ok(()) => match output.write(gathered.bytes()) {
             Put::Done => Served::Written,
             Put::Failed => Served::WriteFault,
         },
-        Put::Failed => Served::NoMemory,
+        Err(SinkFailed) => Served::NoMemory,
     }
 }
 

@@ -1,11 +1,12 @@
 //! Replies as texts, and where a write of them fails.
 
 use super::write_reply;
-use road_io::{MemSink, Put};
+use road_io::MemSink;
 use road_model::{
     ArcNo, Cursor, CursorQuery, ErrorKind, Items, NoMemory, Optimum, PageSpan, Pair, Plan, Reply,
     Route, Verdict, Vertex,
 };
+use road_text::SinkFailed;
 use std::alloc::Global;
 use std::process::Abort;
 use std::test::Fail;
@@ -49,7 +50,7 @@ fn an_optimum_has_its_length_and_its_arcs(rt: HostRuntime) -> Result<(), Fail> {
         number: 7,
         optimum: optimum(rt.alloc())?,
     };
-    assert_eq!(rt; write_reply(&mut sink, &reply, None), Put::Done);
+    assert_eq!(rt; write_reply(&mut sink, &reply, None), Ok(()));
     assert_eq!(rt;
         sink.bytes(),
         b"ok 7\noptimum length 20 arcs 1 2\nend\n".as_slice()
@@ -82,7 +83,7 @@ fn page(
         span,
         more,
     };
-    assert_eq!(rt; write_reply(&mut sink, &reply, Some(plan)), Put::Done);
+    assert_eq!(rt; write_reply(&mut sink, &reply, Some(plan)), Ok(()));
     assert_eq!(rt; sink.bytes(), wanted);
 }
 
@@ -130,7 +131,7 @@ fn why(rt: &impl Abort, alloc: Global, verdict: Verdict, wanted: &[u8]) {
         via: Vertex(5),
         verdict,
     };
-    assert_eq!(rt; write_reply(&mut sink, &reply, None), Put::Done);
+    assert_eq!(rt; write_reply(&mut sink, &reply, None), Ok(()));
     assert_eq!(rt; sink.bytes(), wanted);
 }
 
@@ -189,10 +190,7 @@ fn a_verdict_has_its_word_and_its_numbers(rt: HostRuntime) {
 /// Checks the line of an error.
 fn refused(rt: &impl Abort, alloc: Global, kind: ErrorKind, wanted: &[u8]) {
     let mut sink = MemSink::new(alloc, &[]);
-    assert_eq!(rt;
-        write_reply(&mut sink, &Reply::Error(kind), None),
-        Put::Done
-    );
+    assert_eq!(rt; write_reply(&mut sink, &Reply::Error(kind), None), Ok(()));
     assert_eq!(rt; sink.bytes(), wanted);
 }
 
@@ -218,19 +216,19 @@ fn the_other_replies_are_a_word_and_a_number(rt: HostRuntime) {
     let mut sink = MemSink::new(rt.alloc(), &[]);
     assert_eq!(rt;
         write_reply(&mut sink, &Reply::NoPath { number: 7 }, None),
-        Put::Done
+        Ok(())
     );
     assert_eq!(rt;
         write_reply(&mut sink, &Reply::Version { number: 1048576 }, None),
-        Put::Done
+        Ok(())
     );
     assert_eq!(rt;
         write_reply(&mut sink, &Reply::Staged { count: 0 }, None),
-        Put::Done
+        Ok(())
     );
     assert_eq!(rt;
         write_reply(&mut sink, &Reply::Published { number: 8 }, None),
-        Put::Done
+        Ok(())
     );
     assert_eq!(rt;
         sink.bytes(),
@@ -242,7 +240,7 @@ fn the_other_replies_are_a_word_and_a_number(rt: HostRuntime) {
 fn cut(rt: &impl Abort, alloc: Global, failing: &[u64], wanted: &[u8]) {
     let mut sink = MemSink::new(alloc, failing);
     let reply = Reply::Error(ErrorKind::Gone(7));
-    assert_eq!(rt; write_reply(&mut sink, &reply, None), Put::Failed);
+    assert_eq!(rt; write_reply(&mut sink, &reply, None), Err(SinkFailed));
     assert_eq!(rt; sink.bytes(), wanted);
     assert_eq!(rt; sink.faults(), 1);
 }

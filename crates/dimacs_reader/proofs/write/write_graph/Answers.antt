@@ -3,7 +3,7 @@ use Rattle.road_io.specs.declared.writing.Put.TheVariants.{Done}
 use Rattle.road_io.proofs.SinkLemmas.{Writes_both}
 use Rattle.road_model.specs.declared.rows.ArcRow.{ArcRow}
 use Rattle.dimacs_reader.specs.Text.{row_text}
-use Rattle.dimacs_reader.specs.Pending.{pending}
+use Rattle.road_io.specs.Buffers.{pending}
 use Rattle.dimacs_reader.proofs.TextLemmas.{gr_text-graph_text}
 use Rattle.dimacs_reader.proofs.WriteLemmas.{text_upto, text_upto-more, gathered_more, Writes-whole, Writes-cut}
 use Rattle.dimacs_reader.proofs.write.write_graph.Goals as goal
@@ -29,7 +29,7 @@ loop-row-preserved g c =
     (ap (λ (rows : List ArcRow). get_or rows i row) (sym c.arcs-row-items.ensures.rows) ∙ sym c.row-item.is) in (
       sent ++ later.0,
       record {
-        parts = gathered_more sent later.0 (pending c.loop-row.text) (pending c.make_room.new.self) (row_text row) (text_upto graph i) (pending c.push_row.new.self) so_far.parts later.1 c.push_row.ensures ∙ sym more;
+        parts = gathered_more sent later.0 (pending c.loop-row.text) (pending c.make_room.new.self) (row_text row) (text_upto graph i) (pending c.push_row.new.text) so_far.parts later.1 c.push_row.ensures ∙ sym more;
         written = Writes_both sent later.0 _ _ _ Done so_far.written later.2;
         quiet = c.in-Done.ensures.quiet (λ e. cc) ∙ so_far.quiet;
       },

@@ -1,7 +1,7 @@
 use Rattle.std.proofs.Common.{◌≡◌, ℕ, List, ◌++◌}
 use Rattle.road_io.specs.Sink.{Writes}
 use Rattle.road_io.specs.declared.writing.Put.TheVariants.{Done}
-use Rattle.dimacs_reader.specs.Pending.{pending}
+use Rattle.road_io.specs.Buffers.{pending}
 use Rattle.dimacs_reader.proofs.WriteLemmas.{text_upto}
 use Rattle.dimacs_reader.proofs.write.write_graph.Given as goal
 

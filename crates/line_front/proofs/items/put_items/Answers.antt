@@ -1,4 +1,4 @@
-use Rattle.line_front.proofs.PieceLemmas.{Appends_both, Appends_exit, Appends_failed}
+use Rattle.road_text.proofs.PieceLemmas.{Appends_both, Appends_exit, Appends_failed}
 use Rattle.line_front.proofs.ItemLemmas.{items_parts}
 use Rattle.line_front.proofs.items.put_items.Goals as goal
 

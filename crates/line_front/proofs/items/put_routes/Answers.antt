@@ -1,7 +1,7 @@
 use Rattle.std.proofs.Common.{arith}
 use Rattle.road_model.specs.declared.answer.Route.{Route}
 use Rattle.line_front.specs.Replies.{line_text, route_text}
-use Rattle.line_front.proofs.PieceLemmas.{Appends_cut, Appends_exit, Appends_more}
+use Rattle.road_text.proofs.PieceLemmas.{Appends_cut, Appends_exit, Appends_more}
 use Rattle.line_front.proofs.items.put_routes.Goals as goal
 
 pub returns-in_err-put_route : goal.returns-in_err-put_route

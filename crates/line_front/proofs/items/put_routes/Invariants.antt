@@ -1,7 +1,7 @@
 use Rattle.std.proofs.Common.{take}
 use Rattle.road_io.specs.declared.writing.Put.TheVariants.{Done}
 use Rattle.line_front.specs.Items.{routes_text}
-use Rattle.line_front.specs.Pieces.{Appends}
+use Rattle.road_text.specs.Pieces.{Appends}
 use Rattle.line_front.proofs.items.put_routes.Given as goal
 
 abbrev pub invariant-loop-route : goal.invariant-loop-route

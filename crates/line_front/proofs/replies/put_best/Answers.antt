@@ -1,4 +1,4 @@
-use Rattle.line_front.proofs.PieceLemmas.{Appends_both, Appends_failed, Appends_exit}
+use Rattle.road_text.proofs.PieceLemmas.{Appends_both, Appends_failed, Appends_exit}
 use Rattle.line_front.proofs.replies.put_best.Goals as goal
 
 pub returns-in_err-put_ok : goal.returns-in_err-put_ok

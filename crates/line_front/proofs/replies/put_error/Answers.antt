@@ -1,6 +1,6 @@
 use Rattle.std.proofs.Common.{[], ◌∷◌}
 use Rattle.line_front.specs.Replies.{error_text}
-use Rattle.line_front.proofs.PieceLemmas.{Appends_both, Appends_failed, Appends_exit}
+use Rattle.road_text.proofs.PieceLemmas.{Appends_both, Appends_failed, Appends_exit}
 use Rattle.line_front.proofs.replies.put_error.Goals as goal
 
 pub returns-in_err-put : goal.returns-in_err-put

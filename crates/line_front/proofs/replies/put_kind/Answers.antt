@@ -1,7 +1,7 @@
 use Rattle.std.proofs.Common.{◌∙◌}
 use Rattle.road_model.specs.Messages.{error_number}
 use Rattle.line_front.specs.Replies.{spaced_text}
-use Rattle.line_front.proofs.PieceLemmas.{Appends_both, Appends_failed, Appends_exit}
+use Rattle.road_text.proofs.PieceLemmas.{Appends_both, Appends_failed, Appends_exit}
 use Rattle.line_front.proofs.replies.put_kind.Goals as goal
 
 pub returns-in_err-put : goal.returns-in_err-put

@@ -1,11 +1,10 @@
-use Rattle.std.proofs.Common.{arith}
-use Rattle.route_ranking.proofs.TextLemmas.{others_of, text_with-more}
+use Rattle.road_text.proofs.PieceLemmas.{Appends_both, Appends_failed, Appends_exit}
+use Rattle.route_ranking.proofs.TextLemmas.{text_with-others}
 use Rattle.route_ranking.proofs.cursors.write_cursor.Goals as goal
 
-pub loop-number-preserved : goal.loop-number-preserved
-loop-number-preserved g c = record {
-  used = omega arith;
-  text =
-      text_with-more c.args.cursor.now.version (others_of c.args.cursor.now) c.loop-number.number-index _ _ _
-      c.loop-number-test.true c.loop-number.invariant.text c.put_piece-used.ensures.text c.put_number-used-in-loop-number.ensures.text;
-}
+pub returns-in_err-put_number : goal.returns-in_err-put_number
+returns-in_err-put_number g c =
+    rw (← text_with-others c.args.cursor.now) (Appends_exit _ c.from_residual.ensures.0 (Appends_failed _ c.in_err-put_number.ensures))
+
+pub returns : goal.returns
+returns g c = rw (← text_with-others c.args.cursor.now) (Appends_both c.in_ok-put_number.ensures c.put_dotted.ensures)

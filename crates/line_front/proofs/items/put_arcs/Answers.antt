@@ -1,7 +1,7 @@
 use Rattle.std.proofs.Common.{◌∷◌, ℕ, arith}
 use Rattle.std.specs.Prelude.{decimal}
-use Rattle.line_front.proofs.PieceLemmas.{Appends_cut, Appends_exit}
-use Rattle.line_front.proofs.pieces.put_arcs.Goals as goal
+use Rattle.road_text.proofs.PieceLemmas.{Appends_cut, Appends_exit}
+use Rattle.line_front.proofs.items.put_arcs.Goals as goal
 
 pub returns-in_err-put_numbered : goal.returns-in_err-put_numbered
 returns-in_err-put_numbered g c =

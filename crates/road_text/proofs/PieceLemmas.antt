@@ -8,7 +8,7 @@ use Rattle.road_io.specs.declared.writing.Put.{Put}
 use Rattle.road_io.specs.declared.writing.Put.TheVariants.{Done, Failed}
 use Rattle.road_io.proofs.CountLemmas.{HasRisen_behind}
 use Rattle.road_io.proofs.SinkLemmas.{Writes_both, Writes_failed}
-use Rattle.line_front.specs.Pieces.{put_of, Appends}
+use Rattle.road_text.specs.Pieces.{put_of, Appends}
 
 -- a piece that was written, and then another, are the two in one
 pub Appends_both : {S : Type 0} {written : S → Option Told} {faults : S → ℕ} {first second : List ℕ} {a b c : S} {answer : Put} →

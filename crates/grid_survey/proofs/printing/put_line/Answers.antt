@@ -1,0 +1,14 @@
+use Rattle.road_text.proofs.PieceLemmas.{Appends_both, Appends_failed, Appends_exit}
+use Rattle.grid_survey.proofs.printing.put_line.Goals as goal
+
+pub returns-in_err-put_numbered : goal.returns-in_err-put_numbered
+returns-in_err-put_numbered g c = Appends_exit _ c.from_residual.ensures.0 (Appends_failed _ (Appends_failed _ (Appends_failed _ c.in_err-put_numbered.ensures)))
+
+pub returns-in_err-put : goal.returns-in_err-put
+returns-in_err-put g c = Appends_exit _ c.from_residual-in_err-put.ensures.0 (Appends_failed _ (Appends_failed _ (Appends_both c.in_ok-put_numbered.ensures c.in_err-put.ensures)))
+
+pub returns-in_err-put_wide_number : goal.returns-in_err-put_wide_number
+returns-in_err-put_wide_number g c = Appends_exit _ c.from_residual-in_err-put_wide_number.ensures.0 (Appends_failed _ (Appends_both (Appends_both c.in_ok-put_numbered.ensures c.in_ok-put.ensures) c.in_err-put_wide_number.ensures))
+
+pub returns : goal.returns
+returns g c = Appends_both (Appends_both (Appends_both c.in_ok-put_numbered.ensures c.in_ok-put.ensures) c.in_ok-put_wide_number.ensures) c.put-2.ensures
