@@ -8,7 +8,7 @@ use Rattle.road_text.specs.Lines.{lines_of, whole_lines}
 use Rattle.road_text.specs.declared.line_reader.LineReader.{LineReader}
 use Rattle.road_text.specs.declared.line_reader.Advance.TheVariants.{Whole, Last, Long, End, Spent, Failed}
 use Rattle.road_text.specs.Reader.{held, line_of, budget, limit_of, IsLongLine, Steps}
-use Rattle.road_text.specs.Behind.{IsBeyond, IsRead, IsBroken, IsOver}
+use Rattle.road_text.specs.Progress.{IsBeyond, IsRead, IsBroken, IsOver}
 use Rattle.road_text.proofs.BeyondLemmas.{beyond_whole, beyond_long, read_last, read_long, read_end, over_spent, broken_failed}
 use Rattle.dimacs_reader.specs.declared.fault.GraphKind.{GraphKind}
 use Rattle.dimacs_reader.specs.declared.fault.GraphKind.TheVariants.{FileLong}

@@ -5,7 +5,7 @@
 use Rattle.std.specs.Prelude.{◌≡◌, ℕ, List, [], ◌++◌, None, Result, Ok, Err}
 use Rattle.road_text.specs.declared.line_reader.LineReader.{LineReader}
 use Rattle.road_text.specs.Reader.{held, budget}
-use Rattle.road_text.specs.Behind.{IsBeyond, IsRead}
+use Rattle.road_text.specs.Progress.{IsBeyond, IsRead}
 use Rattle.dimacs_reader.specs.declared.fault.GraphError.{GraphError}
 use Rattle.dimacs_reader.specs.declared.builder.Builder.{Builder}
 use Rattle.dimacs_reader.specs.declared.builder.Gathered.{Gathered}

@@ -6,7 +6,7 @@ use Rattle.road_text.specs.declared.line_reader.Advance.TheVariants.{Whole, Last
 use Rattle.road_text.specs.Lines.{lines_of, whole_lines, without_return, HasNoFeed}
 use Rattle.road_text.specs.Fields.{first_byte}
 use Rattle.road_text.specs.Reader.{held, line_of, budget, IsFreshReader, IsLine, IsLastLine, IsFirstOf, IsLongLine, Steps}
-use Rattle.road_text.specs.Behind.{IsBeyond, IsRead, IsBroken, IsOver}
+use Rattle.road_text.specs.Progress.{IsBeyond, IsRead, IsBroken, IsOver}
 use Rattle.road_text.proofs.LineLemmas.{lines_of-line, lines_of-last, lines_of-nil, whole_lines-line, whole_lines-none, first_byte-without_return}
 
 -- nothing was read

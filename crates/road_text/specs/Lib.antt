@@ -3,5 +3,5 @@ pub mod Fields
 pub mod Numbers
 pub mod Reader
 pub mod Filling
-pub mod Behind
+pub mod Progress
 pub mod Pieces

@@ -13,7 +13,7 @@ use Rattle.route_server.specs.declared.status.Status.TheVariants as the
 use Rattle.route_server.specs.Asking.{NoQuit, lines_within}
 use Rattle.route_server.specs.Loading.{Loads, ends_as}
 use Rattle.route_server.specs.Serving.{opening, Stops, Written}
-use Rattle.route_server.specs.Answering.{Idle, AnswersGraph, AnswersFile}
+use Rattle.route_server.specs.Answer.{Idle, AnswersGraph, AnswersFile}
 use Rattle.route_server.specs.Causes.{IsAccepted, IsUnjudged}
 use Rattle.route_server.proofs.ServingLemmas.{nothing_written}
 

@@ -3,7 +3,7 @@ use Rattle.std.proofs.Common.{◌≡◌, ℕ, ◌+◌, ◌-◌, ◌<◌, ◌≤�
 use Rattle.std.proofs.lemmas.Bool.{cases_lt}
 use Rattle.std.proofs.lemmas.Bool.Decides.{nat_tests}
 use Rattle.road_text.specs.Lines.{lines_of, whole_lines}
-use Rattle.road_text.specs.Behind.{IsBeyond}
+use Rattle.road_text.specs.Progress.{IsBeyond}
 use Rattle.line_front.specs.declared.requests.Parsed.{Parsed}
 use Rattle.route_server.specs.Asking.{asked_by, asked_in, is_quit, lines_within, most_input, NoQuit}
 

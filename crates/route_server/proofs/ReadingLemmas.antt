@@ -4,7 +4,7 @@ use Rattle.road_io.specs.Told.{Told, IfTold}
 use Rattle.road_io.proofs.ToldLemmas.{IfTold_both, told_same}
 use Rattle.road_text.specs.declared.line_reader.LineReader.{LineReader}
 use Rattle.road_text.specs.Reader.{IsFreshReader}
-use Rattle.road_text.specs.Behind.{IsOver}
+use Rattle.road_text.specs.Progress.{IsOver}
 use Rattle.road_text.proofs.BeyondLemmas.{IsBeyond-fresh}
 use Rattle.line_front.specs.declared.requests.Parsed.{Parsed}
 use Rattle.route_server.specs.declared.input.NextLine.TheVariants as next

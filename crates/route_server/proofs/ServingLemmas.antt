@@ -6,7 +6,7 @@ use Rattle.road_io.specs.Told.{Told, IfTold}
 use Rattle.road_io.proofs.ToldLemmas.{IfTold_then, IfTold_both, told_same}
 use Rattle.road_text.specs.declared.line_reader.LineReader.{LineReader}
 use Rattle.road_text.specs.Reader.{held, budget, IsFreshReader}
-use Rattle.road_text.specs.Behind.{IsBeyond, IsRead, IsOver, IsBroken}
+use Rattle.road_text.specs.Progress.{IsBeyond, IsRead, IsOver, IsBroken}
 use Rattle.road_text.proofs.BeyondLemmas.{IsBeyond-fresh}
 use Rattle.road_model.specs.declared.request.Reply.TheVariants as reply
 use Rattle.desk_core.specs.States.{State}

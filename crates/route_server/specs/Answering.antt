@@ -1,25 +1,19 @@
--- What a run with `answer GRAPH` does, by the contents that the shelf has under the name.
---   Idle                  nothing was read of the input, and nothing was written
---   AnswersGraph          over a graph file that is refused: its fault, and idle; else the lines of the input are
---                         answered over its graph
---   AnswersFile           where there is no such file, a read fault, and idle
-use Rattle.std.specs.Prelude.{◌≡◌, ℕ, List, Option, Some, None, Result, Ok, Err}
+-- What is said to a line, and the state after it.
+--   IsSaid g state asked said shown next   a reply stands beside the plan that it shows a page of
+use Rattle.std.specs.Prelude.{◌≡◌, true, false, Option}
+use Rattle.road_model.specs.declared.answer.Plan.{Plan}
 use Rattle.road_model.specs.Graph.{Graph}
-use Rattle.dimacs_reader.specs.declared.fault.GraphFault.{GraphFault}
-use Rattle.dimacs_reader.specs.Gr.{gr_text}
-use Rattle.route_server.specs.declared.status.Status.{Status}
-use Rattle.route_server.specs.declared.status.Status.TheVariants as the
-use Rattle.route_server.specs.Giving.{Refuses}
-use Rattle.route_server.specs.Serving.{Stops}
+use Rattle.desk_core.specs.States.{State}
+use Rattle.line_front.specs.declared.requests.Parsed.{Parsed}
+use Rattle.line_front.specs.declared.requests.Parsed.TheVariants as parsed
+use Rattle.line_front.specs.Replies.{HasItems, reply_text}
+use Rattle.route_server.specs.declared.answering.Said.{Said}
+use Rattle.route_server.specs.declared.answering.Said.TheVariants as said
+use Rattle.route_server.specs.Asking.{is_quit}
+use Rattle.route_server.specs.Serving.{IsReply}
 
-pub record Idle (text rest out now : List ℕ) : Type 0 where
-  pub unread : rest ≡ text
-  pub unwritten : now ≡ out
-
-abbrev pub AnswersGraph : Result Graph GraphFault → List ℕ → List ℕ → List ℕ → List ℕ → Status → Type 0
-AnswersGraph (Ok graph) text rest out now status = Stops graph text rest out now status
-AnswersGraph (Err fault) text rest out now status = Refuses fault status × Idle text rest out now
-
-abbrev pub AnswersFile : Option (List ℕ) → List ℕ → List ℕ → List ℕ → List ℕ → Status → Type 0
-AnswersFile None text rest out now status = (status ≡ the.ReadFault) × Idle text rest out now
-AnswersFile (Some bytes) text rest out now status = AnswersGraph (gr_text bytes) text rest out now status
+abbrev pub IsSaid : Graph → State → Parsed → Said → Option Plan → State → Type 0
+IsSaid g state asked said.Nothing shown next = (asked ≡ parsed.Empty) × (next ≡ state)
+IsSaid g state asked said.Quit shown next = is_quit asked ≡ true
+IsSaid g state asked (said.Answered reply) shown next =
+    (is_quit asked ≡ false) × IsReply g state asked (reply_text reply shown) next × HasItems reply shown

@@ -13,7 +13,7 @@
 use Rattle.std.specs.Prelude.{◌≡◌, ℕ, List, [], ◌∷◌, ◌++◌}
 use Rattle.road_text.specs.declared.line_reader.LineReader.{LineReader}
 use Rattle.road_text.specs.Reader.{held, budget}
-use Rattle.road_text.specs.Behind.{IsBeyond, IsRead, IsOver, IsBroken}
+use Rattle.road_text.specs.Progress.{IsBeyond, IsRead, IsOver, IsBroken}
 use Rattle.line_front.specs.declared.requests.Parsed.{Parsed}
 use Rattle.route_server.specs.declared.input.NextLine.{NextLine}
 use Rattle.route_server.specs.declared.input.NextLine.TheVariants as the

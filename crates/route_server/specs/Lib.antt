@@ -7,7 +7,7 @@ pub mod Served
 pub mod Input
 pub mod Statuses
 pub mod Loading
-pub mod Answering
+pub mod Answer
 pub mod Sessions
-pub mod Saying
+pub mod Answering
 pub mod Causes

@@ -5,7 +5,7 @@ ghost use Rattle.road_io.specs.Told.{IfTold};
 ghost use Rattle.road_io.specs.Count.{HasRisen};
 ghost use Rattle.road_io.specs.Shelf.{with_name};
 ghost use Rattle.dimacs_reader.specs.declared.fault.GraphFault.{GraphFault};
-ghost use Rattle.route_server.specs.Answering.{AnswersFile};
+ghost use Rattle.route_server.specs.Answer.{AnswersFile};
 ghost use Rattle.route_server.specs.Causes.{HasFault, IsAccepted, IsLong, IsRefusal, IsUnjudged, IsWhole};
 
 use crate::load::{ends_as, read_named};

@@ -1,7 +1,7 @@
 //! What is said to request lines.
 
 ghost use Rattle.std.specs.Prelude.{◌≡◌};
-ghost use Rattle.route_server.specs.Saying.{IsSaid};
+ghost use Rattle.route_server.specs.Answering.{IsSaid};
 ghost use Rattle.route_server.specs.Sessions.{last_plan, state_of};
 
 use crate::session::Session;

@@ -6,7 +6,7 @@ ghost use Rattle.road_io.specs.Count.{HasRisen};
 ghost use Rattle.road_io.specs.Shelf.{with_name};
 ghost use Rattle.dimacs_reader.specs.declared.fault.GraphFault.{GraphFault};
 ghost use Rattle.route_server.specs.Words.{command_of, name_of};
-ghost use Rattle.route_server.specs.Answering.{AnswersFile};
+ghost use Rattle.route_server.specs.Answer.{AnswersFile};
 ghost use Rattle.route_server.specs.Giving.{GivesText, GivesOf, IsCheck, IsPrint};
 ghost use Rattle.route_server.specs.Grids.{IsMade, IsSurveyed};
 ghost use Rattle.route_server.specs.Causes.{HasFault, HasFile, IsAccepted, IsEarly, IsLong, IsReady, IsRefusal, IsUnjudged, IsWhole};

@@ -2,7 +2,7 @@ use Rattle.std.proofs.Common.{IfSome, ap, subst, sym}
 use Rattle.road_io.specs.Count.{HasRisen}
 use Rattle.road_io.specs.Told.{IfTold}
 use Rattle.route_server.specs.declared.status.Status.{Status}
-use Rattle.route_server.specs.Answering.{AnswersFile}
+use Rattle.route_server.specs.Answer.{AnswersFile}
 use Rattle.route_engine.specs.Lineage.{Lineage}
 use Rattle.route_server.proofs.AnsweringLemmas.{answers_loaded, answers_no_version, answers_not_loaded, fault_accepted}
 use Rattle.route_server.proofs.answer.answer.Goals as goal
