@@ -20,7 +20,7 @@
 --   reply_text r plan  the lines of a reply; a page is one of the plan beside it
 --   HasSpan span plan  the plan has the items of the span
 --   HasItems r plan    where the reply is a page, the plan has the items of its span
-use Rattle.std.specs.Prelude.{ℕ, ◌≡◌, ◌+◌, ◌≤◌, List, [], ◌∷◌, ◌++◌, Option, Some, None, length, map, take, drop, codes, decimal}
+use Rattle.std.specs.Prelude.{ℕ, ◌+◌, ◌≤◌, List, [], ◌∷◌, ◌++◌, Option, Some, None, length, map, take, drop, codes, decimal}
 use Rattle.std.specs.List.{flat_map}
 use Rattle.road_model.specs.declared.answer.Optimum.{Optimum}
 use Rattle.road_model.specs.declared.answer.PageSpan.{PageSpan}

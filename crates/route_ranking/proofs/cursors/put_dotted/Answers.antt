@@ -1,4 +1,4 @@
-use Rattle.std.proofs.Common.{◌∷◌, ℕ, List, get_or, arith}
+use Rattle.std.proofs.Common.{◌∷◌, ℕ, List, get_or}
 use Rattle.std.specs.Prelude.{decimal}
 use Rattle.std.proofs.lemmas.List.{get_or_default}
 use Rattle.road_text.proofs.PieceLemmas.{Appends_cut, Appends_exit}
