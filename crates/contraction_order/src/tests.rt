@@ -1,30 +1,9 @@
 use super::*;
 use crate::tree::by_subtree;
 use forward_star::Star;
-use road_model::{ArcRow, ArcRows, GraphFile, Vertex};
-use std::alloc::Global;
+use road_model::Vertex;
 use std::test::Fail;
-
-// A graph of these arcs (tail, head, length); a row outside the limits fails the test.
-fn graph_of(alloc: Global, vertices: u32, arcs: &[(u32, u32, u64)]) -> Result<GraphFile, Fail> {
-    let mut rows = ArcRows::new(alloc);
-    if vertices > 33554432 || arcs.len() > 67108864 {
-        return Err("too large a graph".into());
-    }
-    for arc in arcs {
-        let (tail, head, length) = *arc;
-        let ends = tail >= 1 && tail <= vertices && head >= 1 && head <= vertices;
-        if !ends || length < 1 || length > 4294967295 {
-            return Err("an arc outside the limits".into());
-        }
-        rows.push(ArcRow {
-            tail: Vertex(tail),
-            head: Vertex(head),
-            length,
-        })?;
-    }
-    Ok(GraphFile::new(vertices, rows))
-}
+use worked_graphs::graph_of;
 
 #[test]
 fn the_middle_of_a_star_goes_after_its_points(rt: HostRuntime) -> Result<(), Fail> {

@@ -5,33 +5,12 @@ use super::*;
 use contraction_order::{order_by, order_of};
 use forward_star::Star;
 use hierarchy_build::contract;
-use road_model::{ArcRow, ArcRows, GraphFile, Oracle, Vertex, VertexList};
+use road_model::{Oracle, Vertex, VertexList};
 use std::alloc::Global;
+use std::process::Abort;
 use std::sync::Arc;
 use std::test::Fail;
-
-// A graph of these arcs (tail, head, length); a row outside the limits fails the test.
-fn graph_of(alloc: Global, vertices: u32, arcs: &[(u32, u32, u64)]) -> Result<GraphFile, Fail> {
-    let mut rows = ArcRows::new(alloc);
-    if vertices > 33554432 || arcs.len() > 67108864 {
-        return Err("too large a graph".into());
-    }
-    for arc in arcs {
-        let (tail, head, length) = *arc;
-        let ends = tail >= 1 && tail <= vertices && head >= 1 && head <= vertices;
-        if !ends || length < 1 || length > 4294967295 {
-            return Err("an arc outside the limits".into());
-        }
-        rows.push(ArcRow {
-            tail: Vertex(tail),
-            head: Vertex(head),
-            length,
-        })?;
-    }
-    Ok(GraphFile::new(vertices, rows))
-}
-
-type Arcs = &'static [(u32, u32, u64)];
+use worked_graphs::{Arcs, graph_of, vertex_of};
 
 // Six vertices with one-way, parallel and longer arcs, and a loop; nothing leads to 5.
 const MIXED: Arcs = &[
@@ -78,11 +57,9 @@ fn distances_of(
     let mut oracle = HierarchyOracle::new(alloc, Arc::new(alloc, hierarchy)?)?;
     let mut distances = Vec::new(alloc);
     for pair in pairs {
-        let (from, to) = *pair;
-        if from == 0 || from > vertices || to == 0 || to > vertices {
-            return Err("no such vertex".into());
-        }
-        distances.push(oracle.distance(Vertex(from), Vertex(to))?)?;
+        let from = vertex_of(vertices, pair.0)?;
+        let to = vertex_of(vertices, pair.1)?;
+        distances.push(oracle.distance(from, to)?)?;
     }
     Ok(distances)
 }
@@ -113,10 +90,7 @@ fn vertices_of(alloc: Global, vertices: u32, numbers: &[u32]) -> Result<VertexLi
 {
     let mut list = VertexList::new(alloc);
     for number in numbers {
-        if *number == 0 || *number > vertices {
-            return Err("no such vertex".into());
-        }
-        list.push(Vertex(*number))?;
+        list.push(vertex_of(vertices, *number)?)?;
     }
     Ok(list)
 }
@@ -124,13 +98,11 @@ fn vertices_of(alloc: Global, vertices: u32, numbers: &[u32]) -> Result<VertexLi
 // The distances from one vertex to others, in one call.
 fn listed(alloc: Global, star: &Star, from: u32, numbers: &[u32]) -> Result<DistanceList, Fail> {
     let vertices = star.vertices();
-    if from == 0 || from > vertices {
-        return Err("no such start".into());
-    }
+    let from = vertex_of(vertices, from)?;
     let targets = vertices_of(alloc, vertices, numbers)?;
     let order = order_of(alloc, star)?;
     let hierarchy = Arc::new(alloc, contract(alloc, star, order)?)?;
-    let list = one_to_many(alloc, hierarchy, Vertex(from), targets.as_slice())?;
+    let list = one_to_many(alloc, hierarchy, from, targets.as_slice())?;
     Ok(list)
 }
 
@@ -143,65 +115,54 @@ fn asked(
     numbers: &[u32],
 ) -> Result<(DistanceList, ClimbMemory), Fail> {
     let vertices = star.vertices();
-    if from == 0 || from > vertices {
-        return Err("no such start".into());
-    }
+    let from = vertex_of(vertices, from)?;
     let order = order_of(alloc, star)?;
     let hierarchy = Arc::new(alloc, contract(alloc, star, order)?)?;
     let mut oracle = HierarchyOracle::in_memory(alloc, memory, hierarchy)?;
     let mut distances = DistanceList::new(alloc);
     for number in numbers {
-        if *number == 0 || *number > vertices {
-            return Err("no such target".into());
-        }
-        distances.push(oracle.distance(Vertex(from), Vertex(*number))?)?;
+        let to = vertex_of(vertices, *number)?;
+        distances.push(oracle.distance(from, to)?)?;
     }
     Ok((distances, oracle.into_memory()))
 }
 
+// In one call, and one after another in a memory, which is given back.
+fn answers_both_ways<R: Abort>(
+    rt: &R,
+    alloc: Global,
+    memory: ClimbMemory,
+    star: &Star,
+    from: u32,
+    targets: &[u32],
+    wanted: &[Option<u64>],
+) -> Result<ClimbMemory, Fail> {
+    let list = listed(alloc, star, from, targets)?;
+    assert_eq!(rt; list.as_slice(), wanted, "from {from}");
+    let (distances, kept) = asked(alloc, memory, star, from, targets)?;
+    assert_eq!(rt; distances.as_slice(), wanted, "from {from}, in a memory");
+    Ok(kept)
+}
+
 #[test]
 fn answers_the_same_in_a_list_and_in_a_memory_that_is_kept(rt: HostRuntime) -> Result<(), Fail> {
-    // a graph of so many vertices; a start; targets; the distances
-    let rows: [(u32, Arcs, u32, &[u32], &[Option<u64>]); 6] = [
-        (
-            6,
-            MIXED,
-            2,
-            &[4, 5, 4, 6, 2, 1],
-            &[Some(7), None, Some(7), Some(10), Some(0), None],
-        ),
-        (3, &[], 2, &[1, 2, 3], &[None, Some(0), None]),
-        (1, &[], 1, &[1], &[Some(0)]),
-        (
-            4,
-            LEAVES,
-            3,
-            &[2, 3, 4, 1],
-            &[Some(3), Some(0), Some(5), Some(2)],
-        ),
-        (
-            4,
-            PATH,
-            2,
-            &[1, 2, 3, 4],
-            &[None, Some(0), Some(4294967295), Some(4294967297)],
-        ),
-        (
-            4,
-            SQUARE,
-            1,
-            &[4, 2, 3, 1],
-            &[Some(2), Some(1), Some(1), Some(0)],
-        ),
-    ];
-    let mut memory = ClimbMemory::new(rt.alloc());
-    for (vertices, arcs, from, targets, wanted) in rows {
-        let star = Star::build(rt.alloc(), graph_of(rt.alloc(), vertices, arcs)?)?;
-        let list = listed(rt.alloc(), &star, from, targets)?;
-        assert_eq!(rt; list.as_slice(), wanted);
-        let (distances, kept) = asked(rt.alloc(), memory, &star, from, targets)?;
-        assert_eq!(rt; distances.as_slice(), wanted);
-        memory = kept;
-    }
+    let a = rt.alloc();
+    let memory = ClimbMemory::new(a);
+    let wanted = [Some(7), None, Some(7), Some(10), Some(0), None];
+    let mixed = star_of(a)?;
+    let memory = answers_both_ways(&rt, a, memory, &mixed, 2, &[4, 5, 4, 6, 2, 1], &wanted)?;
+    let bare = Star::build(a, graph_of(a, 3, &[])?)?;
+    let memory = answers_both_ways(&rt, a, memory, &bare, 2, &[1, 2, 3], &[None, Some(0), None])?;
+    let one = Star::build(a, graph_of(a, 1, &[])?)?;
+    let memory = answers_both_ways(&rt, a, memory, &one, 1, &[1], &[Some(0)])?;
+    let wanted = [Some(3), Some(0), Some(5), Some(2)];
+    let leaves = Star::build(a, graph_of(a, 4, LEAVES)?)?;
+    let memory = answers_both_ways(&rt, a, memory, &leaves, 3, &[2, 3, 4, 1], &wanted)?;
+    let wanted = [None, Some(0), Some(4294967295), Some(4294967297)];
+    let path = Star::build(a, graph_of(a, 4, PATH)?)?;
+    let memory = answers_both_ways(&rt, a, memory, &path, 2, &[1, 2, 3, 4], &wanted)?;
+    let wanted = [Some(2), Some(1), Some(1), Some(0)];
+    let square = Star::build(a, graph_of(a, 4, SQUARE)?)?;
+    answers_both_ways(&rt, a, memory, &square, 1, &[4, 2, 3, 1], &wanted)?;
     Ok(())
 }

@@ -1,7 +1,7 @@
-ghost use Rattle.std.specs.Prelude.{◌≡◌, IfOk};
+ghost use Rattle.std.specs.Prelude.{◌≡◌, ◌≤◌, IfOk};
 ghost use Rattle.contraction_order.specs.Order.{IsOrder};
 
-use crate::graphs::{Shape, arcs_of, drawn, graph_of, random_arcs};
+use crate::graphs::{Shape, arcs_of, drawn, random_arcs, star_of};
 use contraction_order::{Order, order_by, order_of};
 use forward_star::Star;
 use hierarchy_build::contract;
@@ -10,6 +10,7 @@ use rand_core::SeedableRng;
 use rand_xoshiro::SplitMix64;
 use road_model::{Oracle, Vertex};
 use std::alloc::Global;
+use std::process::Abort;
 use std::sync::Arc;
 use std::test::Fail;
 use tree_search::PlainOracle;
@@ -66,7 +67,7 @@ fn every_order_of_five_vertices_gives_the_distances(rt: HostRuntime) -> Result<(
     for graph in 0..100u32 {
         let longest = if graph % 3 == 0 { 2 } else { 4294967295 };
         let arcs = random_arcs(rt.alloc(), &mut words, 5, 3 + graph % 12, longest)?;
-        let star = graph_of(rt.alloc(), 5, &arcs)?;
+        let star = star_of(rt.alloc(), 5, &arcs)?;
         for number in 0..3125 {
             if let Some(wishes) = digits(number) {
                 let order = order_by(rt.alloc(), star.vertices(), &wishes)?;
@@ -99,19 +100,26 @@ fn is_right_at(alloc: Global, star: &Star, pairs: u32) -> Result<bool, Fail> {
     Ok(true)
 }
 
+// A graph of a shape, of so many vertices, whose arcs are all as long.
+fn has_its_distances<R: Abort>(
+    rt: &R,
+    alloc: Global,
+    shape: Shape,
+    vertices: u32,
+    length: u64,
+) -> Result<(), Fail>
+    requires { vertices ≤ 33554432 }
+{
+    let arcs = arcs_of(alloc, shape, vertices, length)?;
+    let star = star_of(alloc, vertices, &arcs)?;
+    assert!(rt; is_right_at(alloc, &star, 40)?, "{shape:?}");
+    Ok(())
+}
+
 #[test]
 fn large_graphs_of_odd_shapes_have_their_distances(rt: HostRuntime) -> Result<(), Fail> {
-    // a shape, so many vertices, the length of each arc
-    let rows = [
-        (Shape::Path, 100000, 4294967295),
-        (Shape::Leaves, 100000, 3),
-        (Shape::Clique, 300, 7),
-        (Shape::Lattice, 3600, 1),
-    ];
-    for (shape, vertices, length) in rows {
-        let arcs = arcs_of(rt.alloc(), shape, vertices, length)?;
-        let star = graph_of(rt.alloc(), vertices, &arcs)?;
-        assert!(rt; is_right_at(rt.alloc(), &star, 40)?);
-    }
-    Ok(())
+    has_its_distances(&rt, rt.alloc(), Shape::Path, 100000, 4294967295)?;
+    has_its_distances(&rt, rt.alloc(), Shape::Leaves, 100000, 3)?;
+    has_its_distances(&rt, rt.alloc(), Shape::Clique, 300, 7)?;
+    has_its_distances(&rt, rt.alloc(), Shape::Lattice, 3600, 1)
 }

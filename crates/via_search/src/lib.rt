@@ -18,6 +18,3 @@ mod verdicts;
 pub use memory::PlanMemory;
 pub use planning::{plan, plan_in};
 pub use verdicts::{verdict, verdict_in};
-
-#[cfg(test)]
-mod tests;
