@@ -12,8 +12,3 @@ pub use climb_memory::ClimbMemory;
 pub use distances::DistancesFrom;
 pub use oracle::HierarchyOracle;
 pub use tables::{DistanceList, one_to_many};
-
-#[cfg(test)]
-mod distance_tests;
-#[cfg(test)]
-mod tests;

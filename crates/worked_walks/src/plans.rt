@@ -13,7 +13,7 @@ use std::process::Abort;
 use std::test::Fail;
 use tree_search::PlainOracle;
 use via_search::{PlanMemory, plan, plan_in, verdict};
-use worked_graphs::{A, B, C, D, PARALLEL, STUB, vertex_of};
+use worked_graphs::{A, Arcs, B, C, D, PARALLEL, STUB, vertex_of};
 
 /// Gamma, alpha and epsilon.
 type Ratios = [(u64, u64); 3];
@@ -120,52 +120,43 @@ fn lists<R: Abort>(
     Ok(())
 }
 
+// A graph of so many vertices, the ends of a query, its ratios, and its plan.
+const PLANS: &[(u32, Arcs, (u32, u32), Ratios, &str)] = &[
+    (6, A, (1, 6), DEFAULT, OVER_A),
+    (6, B, (1, 6), DEFAULT, ALONE),
+    (6, A, (1, 6), [(4, 5), (3, 10), (1, 4)], OVER_A),
+    (6, A, (1, 6), [(4, 5), (13, 40), (1, 4)], ALONE),
+    (6, A, (1, 6), [(4, 5), (1, 4), (1, 10)], OVER_A),
+    (6, A, (1, 6), [(4, 5), (1, 4), (9, 100)], ALONE),
+    (4, D, (1, 4), DEFAULT, OVER_D),
+    (6, A, (1, 1), DEFAULT, "optimum length 0 arcs"),
+    (6, A, (6, 1), DEFAULT, "none"),
+    (6, C, (1, 6), DEFAULT, OVER_C),
+    (
+        6,
+        C,
+        (1, 6),
+        [(1, 10), (1, 4), (1, 4)],
+        "optimum length 20 arcs 1 2 3",
+    ),
+    (
+        4,
+        STUB,
+        (1, 3),
+        [(1, 1), (0, 1), (1, 1)],
+        "optimum length 2 arcs 1 2",
+    ),
+    (2, PARALLEL, (1, 2), DEFAULT, "optimum length 7 arcs 1"),
+];
+
 #[test]
 fn lists_the_optimum_and_each_alternative(rt: HostRuntime) -> Result<(), Fail> {
-    let a = rt.alloc();
-    let star = star_of(a, 6, A)?;
-    lists(&rt, a, &star, (1, 6), DEFAULT, OVER_A)?;
-    lists(&rt, a, &star, (1, 6), [(4, 5), (3, 10), (1, 4)], OVER_A)?;
-    lists(&rt, a, &star, (1, 6), [(4, 5), (13, 40), (1, 4)], ALONE)?;
-    lists(&rt, a, &star, (1, 6), [(4, 5), (1, 4), (1, 10)], OVER_A)?;
-    lists(&rt, a, &star, (1, 6), [(4, 5), (1, 4), (9, 100)], ALONE)?;
-    lists(&rt, a, &star, (1, 1), DEFAULT, "optimum length 0 arcs")?;
-    lists(&rt, a, &star, (6, 1), DEFAULT, "none")
-}
-
-#[test]
-fn lists_no_path_that_shares_too_much(rt: HostRuntime) -> Result<(), Fail> {
-    let a = rt.alloc();
-    let star = star_of(a, 6, C)?;
-    lists(&rt, a, &star, (1, 6), DEFAULT, OVER_C)?;
-    let alone = "optimum length 20 arcs 1 2 3";
-    lists(&rt, a, &star, (1, 6), [(1, 10), (1, 4), (1, 4)], alone)
-}
-
-#[test]
-fn lists_no_detour_and_no_stub(rt: HostRuntime) -> Result<(), Fail> {
-    let a = rt.alloc();
-    let detour = star_of(a, 6, B)?;
-    lists(&rt, a, &detour, (1, 6), DEFAULT, ALONE)?;
-    let stub = star_of(a, 4, STUB)?;
-    let alone = "optimum length 2 arcs 1 2";
-    lists(&rt, a, &stub, (1, 3), [(1, 1), (0, 1), (1, 1)], alone)
-}
-
-#[test]
-fn lists_ties_and_no_parallel_arcs(rt: HostRuntime) -> Result<(), Fail> {
-    let a = rt.alloc();
-    let ties = star_of(a, 4, D)?;
-    lists(&rt, a, &ties, (1, 4), DEFAULT, OVER_D)?;
-    let parallel = star_of(a, 2, PARALLEL)?;
-    lists(
-        &rt,
-        a,
-        &parallel,
-        (1, 2),
-        DEFAULT,
-        "optimum length 7 arcs 1",
-    )
+    for row in PLANS {
+        let (vertices, arcs, ends, ratios, wanted) = *row;
+        let star = star_of(rt.alloc(), vertices, arcs)?;
+        lists(&rt, rt.alloc(), &star, ends, ratios, wanted)?;
+    }
+    Ok(())
 }
 
 fn plan_kept(
@@ -282,29 +273,33 @@ fn says<R: Abort>(
     Ok(())
 }
 
-#[test]
-fn says_why_a_path_is_or_is_not_listed(rt: HostRuntime) -> Result<(), Fail> {
-    let a = rt.alloc();
-    let star = star_of(a, 6, A)?;
-    let local: Ratios = [(4, 5), (13, 40), (1, 4)];
-    let long: Ratios = [(4, 5), (1, 4), (9, 100)];
-    says(&rt, a, &star, (1, 6), 4, DEFAULT, "listed 3")?;
-    says(&rt, a, &star, (1, 6), 5, DEFAULT, "unreached")?;
-    says(&rt, a, &star, (1, 6), 2, DEFAULT, "optimum")?;
-    says(&rt, a, &star, (6, 1), 4, DEFAULT, "none")?;
-    says(&rt, a, &star, (1, 6), 3, local, "local 0 3 20")?;
-    says(&rt, a, &star, (1, 6), 3, long, "long 22")
-}
+// A graph of so many vertices, the ends of a query, a vertex, the ratios, and the verdict.
+const VERDICTS: &[(u32, Arcs, (u32, u32), u32, Ratios, &str)] = &[
+    (6, A, (1, 6), 4, DEFAULT, "listed 3"),
+    (6, A, (1, 6), 5, DEFAULT, "unreached"),
+    (6, A, (1, 6), 2, DEFAULT, "optimum"),
+    (6, A, (6, 1), 4, DEFAULT, "none"),
+    (6, A, (1, 6), 3, [(4, 5), (13, 40), (1, 4)], "local 0 3 20"),
+    (6, A, (1, 6), 3, [(4, 5), (1, 4), (9, 100)], "long 22"),
+    (
+        4,
+        STUB,
+        (1, 3),
+        4,
+        [(1, 1), (0, 1), (1, 1)],
+        "stretch 0 3 1",
+    ),
+    (6, C, (1, 6), 4, [(1, 10), (1, 4), (1, 4)], "shared 5"),
+];
 
 #[test]
-fn says_where_a_path_turns_back_and_what_it_shares(rt: HostRuntime) -> Result<(), Fail> {
-    let a = rt.alloc();
-    let stretched: Ratios = [(1, 1), (0, 1), (1, 1)];
-    let shared: Ratios = [(1, 10), (1, 4), (1, 4)];
-    let stub = star_of(a, 4, STUB)?;
-    says(&rt, a, &stub, (1, 3), 4, stretched, "stretch 0 3 1")?;
-    let fork = star_of(a, 6, C)?;
-    says(&rt, a, &fork, (1, 6), 4, shared, "shared 5")
+fn says_why_a_path_is_or_is_not_listed(rt: HostRuntime) -> Result<(), Fail> {
+    for row in VERDICTS {
+        let (vertices, arcs, ends, via, ratios, wanted) = *row;
+        let star = star_of(rt.alloc(), vertices, arcs)?;
+        says(&rt, rt.alloc(), &star, ends, via, ratios, wanted)?;
+    }
+    Ok(())
 }
 
 /// An oracle that has no memory for an answer.

@@ -43,27 +43,28 @@ fn finds<R: Abort>(
     wanted: &str,
 ) -> Result<(), Fail> {
     let text = within(alloc, star, ends, bound)?;
-    assert_eq!(rt; text.as_str(), wanted, "within {bound}");
+    assert_eq!(rt; text.as_str(), wanted, "{ends:?} within {bound}");
     Ok(())
 }
 
-#[test]
-fn finds_each_plateau_once(rt: HostRuntime) -> Result<(), Fail> {
-    let a = rt.alloc();
-    let star = star_of(a, 6, A)?;
-    finds(&rt, a, &star, (1, 6), 25, "1: 1 to 6 20; 3: 3 to 4 6; ")?;
-    finds(&rt, a, &star, (1, 6), 21, "1: 1 to 6 20; ")?;
-    finds(&rt, a, &star, (6, 1), 25, "")
-}
+// A graph of so many vertices, from where to where, a bound, and the plateaus.
+const PLATEAUS: &[(u32, Arcs, (u32, u32), u64, &str)] = &[
+    (6, A, (1, 6), 25, "1: 1 to 6 20; 3: 3 to 4 6; "),
+    (6, A, (1, 6), 21, "1: 1 to 6 20; "),
+    (6, A, (6, 1), 25, ""),
+    (4, D, (1, 4), 12, "1: 1 to 2 5; 3: 3 to 4 5; "),
+    (4, LINE, (1, 4), 3, "1: 1 to 4 3; "),
+    (4, LINE, (3, 4), 2, "2: 3 to 4 2; "),
+];
 
 #[test]
-fn finds_the_plateaus_of_a_tie_and_of_a_line(rt: HostRuntime) -> Result<(), Fail> {
-    let a = rt.alloc();
-    let ties = star_of(a, 4, D)?;
-    finds(&rt, a, &ties, (1, 4), 12, "1: 1 to 2 5; 3: 3 to 4 5; ")?;
-    let line = star_of(a, 4, LINE)?;
-    finds(&rt, a, &line, (1, 4), 3, "1: 1 to 4 3; ")?;
-    finds(&rt, a, &line, (3, 4), 2, "2: 3 to 4 2; ")
+fn finds_each_plateau_once(rt: HostRuntime) -> Result<(), Fail> {
+    for row in PLATEAUS {
+        let (vertices, arcs, ends, bound, wanted) = *row;
+        let star = star_of(rt.alloc(), vertices, arcs)?;
+        finds(&rt, rt.alloc(), &star, ends, bound, wanted)?;
+    }
+    Ok(())
 }
 
 #[test]

@@ -39,7 +39,8 @@ fn has_optimum<R: Abort>(
     rt: &R,
     alloc: Global,
     star: &Star,
-    (from, to): (u32, u32),
+    from: u32,
+    to: u32,
     wanted: &str,
 ) -> Result<(), Fail> {
     let found = best(alloc, star, from, to)?;
@@ -47,29 +48,29 @@ fn has_optimum<R: Abort>(
     Ok(())
 }
 
-#[test]
-fn finds_the_optimum(rt: HostRuntime) -> Result<(), Fail> {
-    let a = rt.alloc();
-    let star = star_of(a, 6, A)?;
-    has_optimum(&rt, a, &star, (1, 6), "20: 1 2")?;
-    has_optimum(&rt, a, &star, (1, 3), "11: 3")?;
-    has_optimum(&rt, a, &star, (6, 1), "none")?;
-    has_optimum(&rt, a, &star, (1, 5), "none")?;
-    has_optimum(&rt, a, &star, (1, 1), "0:")?;
-    let ties = star_of(a, 4, D)?;
-    has_optimum(&rt, a, &ties, (1, 4), "10: 3 2")
-}
+// A graph of so many vertices, from where to where, and the length and the arcs of the optimum.
+const OPTIMA: &[(u32, Arcs, u32, u32, &str)] = &[
+    (6, A, 1, 6, "20: 1 2"),
+    (6, A, 1, 3, "11: 3"),
+    (6, A, 6, 1, "none"),
+    (6, A, 1, 5, "none"),
+    (6, A, 1, 1, "0:"),
+    (4, D, 1, 4, "10: 3 2"),
+    (2, PARALLEL, 1, 2, "7: 1"),
+    (2, PARALLEL, 1, 1, "0:"),
+    (3, LONG, 1, 3, "8589934590: 1 2"),
+    (1, BARE, 1, 1, "0:"),
+    (3, BARE, 2, 3, "none"),
+];
 
 #[test]
-fn finds_the_optimum_of_odd_graphs(rt: HostRuntime) -> Result<(), Fail> {
-    let a = rt.alloc();
-    let parallel = star_of(a, 2, PARALLEL)?;
-    has_optimum(&rt, a, &parallel, (1, 2), "7: 1")?;
-    has_optimum(&rt, a, &parallel, (1, 1), "0:")?;
-    let long = star_of(a, 3, LONG)?;
-    has_optimum(&rt, a, &long, (1, 3), "8589934590: 1 2")?;
-    has_optimum(&rt, a, &star_of(a, 1, BARE)?, (1, 1), "0:")?;
-    has_optimum(&rt, a, &star_of(a, 3, BARE)?, (2, 3), "none")
+fn finds_the_optimum(rt: HostRuntime) -> Result<(), Fail> {
+    for row in OPTIMA {
+        let (vertices, arcs, from, to, wanted) = *row;
+        let star = star_of(rt.alloc(), vertices, arcs)?;
+        has_optimum(&rt, rt.alloc(), &star, from, to, wanted)?;
+    }
+    Ok(())
 }
 
 // From 1 to the last vertex.
@@ -97,29 +98,30 @@ fn leads_through<R: Abort>(
     Ok(())
 }
 
-#[test]
-fn finds_paths_through_vertices(rt: HostRuntime) -> Result<(), Fail> {
-    let a = rt.alloc();
-    let star = star_of(a, 6, A)?;
-    leads_through(&rt, a, &star, Some(25), 4, " 3 4 5")?;
-    leads_through(&rt, a, &star, Some(25), 3, " 3 4 5")?;
-    leads_through(&rt, a, &star, Some(25), 2, " 1 2")?;
-    leads_through(&rt, a, &star, Some(25), 5, "none")?;
-    leads_through(&rt, a, &star, Some(25), 0, "none")?;
-    leads_through(&rt, a, &star, Some(25), 7, "none")?;
-    leads_through(&rt, a, &star, Some(16), 4, "none")
-}
+// A graph of so many vertices, a radius, a vertex, and the arcs of the path through it.
+const VIA_PATHS: &[(u32, Arcs, Option<u64>, u32, &str)] = &[
+    (6, A, Some(25), 4, " 3 4 5"),
+    (6, A, Some(25), 3, " 3 4 5"),
+    (6, A, Some(25), 2, " 1 2"),
+    (6, A, Some(25), 5, "none"),
+    (6, A, Some(25), 0, "none"),
+    (6, A, Some(25), 7, "none"),
+    (6, A, Some(16), 4, "none"),
+    (6, A, None, 4, " 3 4 5"),
+    (6, A, Some(u64::MAX), 4, " 3 4 5"),
+    (4, D, Some(10), 1, " 1 4"),
+    (4, D, Some(10), 4, " 3 2"),
+    (1, BARE, Some(0), 1, ""),
+];
 
 #[test]
-fn finds_paths_within_odd_radii(rt: HostRuntime) -> Result<(), Fail> {
-    let a = rt.alloc();
-    let star = star_of(a, 6, A)?;
-    leads_through(&rt, a, &star, None, 4, " 3 4 5")?;
-    leads_through(&rt, a, &star, Some(u64::MAX), 4, " 3 4 5")?;
-    let ties = star_of(a, 4, D)?;
-    leads_through(&rt, a, &ties, Some(10), 1, " 1 4")?;
-    leads_through(&rt, a, &ties, Some(10), 4, " 3 2")?;
-    leads_through(&rt, a, &star_of(a, 1, BARE)?, Some(0), 1, "")
+fn finds_paths_through_vertices(rt: HostRuntime) -> Result<(), Fail> {
+    for row in VIA_PATHS {
+        let (vertices, arcs, radius, via, wanted) = *row;
+        let star = star_of(rt.alloc(), vertices, arcs)?;
+        leads_through(&rt, rt.alloc(), &star, radius, via, wanted)?;
+    }
+    Ok(())
 }
 
 // How many arcs the path through a vertex has, from 1 to the last one, by trees in a kept memory. Steps are kept for the
@@ -205,19 +207,25 @@ fn shows<R: Abort>(
     Ok(())
 }
 
+const ROWS: &[(u32, &str)] = &[
+    (0, "- - - -"),
+    (1, "0 - - -"),
+    (2, "10 10 1 2"),
+    (3, "11 11 3 4"),
+    (4, "17 5 4 5"),
+    (5, "- - - -"),
+    (6, "- 0 - -"),
+    (7, "- - - -"),
+];
+
 #[test]
 fn shows_labels_and_arcs(rt: HostRuntime) -> Result<(), Fail> {
-    let a = rt.alloc();
-    let star = star_of(a, 6, A)?;
-    let pair = halves(a, &star, 17)?;
-    shows(&rt, a, &pair, 0, "- - - -")?;
-    shows(&rt, a, &pair, 1, "0 - - -")?;
-    shows(&rt, a, &pair, 2, "10 10 1 2")?;
-    shows(&rt, a, &pair, 3, "11 11 3 4")?;
-    shows(&rt, a, &pair, 4, "17 5 4 5")?;
-    shows(&rt, a, &pair, 5, "- - - -")?;
-    shows(&rt, a, &pair, 6, "- 0 - -")?;
-    shows(&rt, a, &pair, 7, "- - - -")
+    let star = star_of(rt.alloc(), 6, A)?;
+    let pair = halves(rt.alloc(), &star, 17)?;
+    for row in ROWS {
+        shows(&rt, rt.alloc(), &pair, row.0, row.1)?;
+    }
+    Ok(())
 }
 
 #[test]

@@ -8,9 +8,13 @@ use route_ranking::{order_routes, rank};
 use std::alloc::Global;
 use std::process::Abort;
 use std::test::Fail;
-use worked_graphs::{A, B, STUB};
+use worked_graphs::{A, Arcs, B, STUB};
 
-fn pair(first: u32, last: u32, distance: u64) -> Option<Pair> {
+// The places of a failing pair, and its distance.
+type Failing = Option<(u32, u32, u64)>;
+
+fn pair(failing: Failing) -> Option<Pair> {
+    let (first, last, distance) = failing?;
     Some(Pair {
         first,
         last,
@@ -18,102 +22,63 @@ fn pair(first: u32, last: u32, distance: u64) -> Option<Pair> {
     })
 }
 
-// The walk of a star from one vertex to another, through a third.
-#[derive(Drop)]
-struct ThroughVertex<'a> {
-    star: &'a Star,
-    from: u32,
-    via: u32,
-    to: u32,
-}
-
-fn through(star: &Star, from: u32, via: u32, to: u32) -> ThroughVertex<'_> {
-    ThroughVertex {
-        star,
-        from,
-        via,
-        to,
-    }
-}
-
-// With an optimum of this length.
-fn is_local<R: Abort>(
+// What a test says of the canonical walk through a vertex, which is there.
+fn says<R: Abort>(
     rt: &R,
     alloc: Global,
-    walk: &ThroughVertex<'_>,
-    (num, den): (u64, u64),
-    opt_len: u64,
+    star: &Star,
+    (from, via, to): (u32, u32, u32),
+    test: Test,
     wanted: Option<Pair>,
 ) -> Result<(), Fail> {
-    let alpha = Ratio::new(num, den, 1)?;
-    let test = Test::Local { alpha, opt_len };
-    let found = failing_pair(alloc, walk.star, walk.from, walk.via, walk.to, test)?;
-    assert_eq!(rt; found, Some(wanted), "alpha {num}/{den}");
+    let found = failing_pair(alloc, star, from, via, to, test)?;
+    assert_eq!(rt; found, Some(wanted), "from {from} through {via}");
     Ok(())
 }
+
+// A graph of so many vertices; from, through and to; alpha; the optimum's length; the failing pair with its distance.
+const LOCAL: &[(u32, Arcs, (u32, u32, u32), (u64, u64), u64, Failing)] = &[
+    (6, A, (1, 3, 6), (1, 4), 20, None),
+    (6, A, (1, 3, 6), (3, 10), 20, None),
+    (6, A, (1, 3, 6), (13, 40), 20, Some((0, 3, 20))),
+    (6, B, (1, 3, 6), (1, 4), 20, Some((0, 2, 20))),
+    (4, STUB, (1, 4, 3), (0, 1), 2, None),
+    (4, STUB, (1, 4, 3), (1, 2), 2, Some((1, 3, 0))),
+    (4, STUB, (1, 4, 3), (1, 1), 2, Some((0, 3, 1))),
+];
 
 #[test]
 fn local_optimality_of_worked_walks(rt: HostRuntime) -> Result<(), Fail> {
-    let a = rt.alloc();
-    let star = star_of(a, 6, A)?;
-    let walk = through(&star, 1, 3, 6);
-    is_local(&rt, a, &walk, (1, 4), 20, None)?;
-    is_local(&rt, a, &walk, (3, 10), 20, None)?;
-    is_local(&rt, a, &walk, (13, 40), 20, pair(0, 3, 20))?;
-    let detour = star_of(a, 6, B)?;
-    is_local(
-        &rt,
-        a,
-        &through(&detour, 1, 3, 6),
-        (1, 4),
-        20,
-        pair(0, 2, 20),
-    )
-}
-
-#[test]
-fn local_optimality_of_a_stub(rt: HostRuntime) -> Result<(), Fail> {
-    let a = rt.alloc();
-    let star = star_of(a, 4, STUB)?;
-    let walk = through(&star, 1, 4, 3);
-    is_local(&rt, a, &walk, (0, 1), 2, None)?;
-    is_local(&rt, a, &walk, (1, 2), 2, pair(1, 3, 0))?;
-    is_local(&rt, a, &walk, (1, 1), 2, pair(0, 3, 1))
-}
-
-fn is_stretched<R: Abort>(
-    rt: &R,
-    alloc: Global,
-    walk: &ThroughVertex<'_>,
-    (num, den): (u64, u64),
-    wanted: Option<Pair>,
-) -> Result<(), Fail> {
-    let epsilon = Ratio::new(num, den, 4)?;
-    let test = Test::Stretch { epsilon };
-    let found = failing_pair(alloc, walk.star, walk.from, walk.via, walk.to, test)?;
-    assert_eq!(rt; found, Some(wanted), "epsilon {num}/{den}");
+    for row in LOCAL {
+        let (vertices, arcs, places, (num, den), opt_len, wanted) = *row;
+        let star = star_of(rt.alloc(), vertices, arcs)?;
+        let alpha = Ratio::new(num, den, 1)?;
+        let test = Test::Local { alpha, opt_len };
+        says(&rt, rt.alloc(), &star, places, test, pair(wanted))?;
+    }
     Ok(())
 }
 
-#[test]
-fn stretch_of_worked_walks(rt: HostRuntime) -> Result<(), Fail> {
-    let a = rt.alloc();
-    let star = star_of(a, 6, A)?;
-    let walk = through(&star, 1, 3, 6);
-    is_stretched(&rt, a, &walk, (1, 4), None)?;
-    is_stretched(&rt, a, &walk, (1, 10), None)?;
-    is_stretched(&rt, a, &walk, (9, 100), pair(0, 3, 20))?;
-    let detour = star_of(a, 6, B)?;
-    is_stretched(&rt, a, &through(&detour, 1, 3, 6), (0, 1), pair(0, 2, 20))
-}
+// A graph of so many vertices; from, through and to; epsilon; the failing pair with its distance.
+const STRETCHED: &[(u32, Arcs, (u32, u32, u32), (u64, u64), Failing)] = &[
+    (6, A, (1, 3, 6), (1, 4), None),
+    (6, A, (1, 3, 6), (1, 10), None),
+    (6, A, (1, 3, 6), (9, 100), Some((0, 3, 20))),
+    (6, B, (1, 3, 6), (0, 1), Some((0, 2, 20))),
+    (4, STUB, (1, 4, 3), (1, 1), Some((0, 3, 1))),
+    (4, STUB, (1, 4, 3), (4, 1), Some((1, 3, 0))),
+];
 
 #[test]
-fn stretch_of_a_stub(rt: HostRuntime) -> Result<(), Fail> {
-    let a = rt.alloc();
-    let star = star_of(a, 4, STUB)?;
-    let walk = through(&star, 1, 4, 3);
-    is_stretched(&rt, a, &walk, (1, 1), pair(0, 3, 1))?;
-    is_stretched(&rt, a, &walk, (4, 1), pair(1, 3, 0))
+fn stretch_of_worked_walks(rt: HostRuntime) -> Result<(), Fail> {
+    for row in STRETCHED {
+        let (vertices, arcs, places, (num, den), wanted) = *row;
+        let star = star_of(rt.alloc(), vertices, arcs)?;
+        let epsilon = Ratio::new(num, den, 4)?;
+        let test = Test::Stretch { epsilon };
+        says(&rt, rt.alloc(), &star, places, test, pair(wanted))?;
+    }
+    Ok(())
 }
 
 // Of graph A, whose optimum from 1 to 6 is 1 2.
@@ -131,16 +96,22 @@ fn shares<R: Abort>(
 }
 
 // Each arc of the optimum counts once, however often it occurs.
+const SHARED: &[(&[u32], u64)] = &[
+    (&[3, 4, 5], 0),
+    (&[1, 2], 20),
+    (&[1, 6, 4, 5], 10),
+    (&[1, 1, 2, 1], 20),
+    (&[], 0),
+    (&[0, 7], 0),
+];
+
 #[test]
 fn shared_lengths(rt: HostRuntime) -> Result<(), Fail> {
-    let a = rt.alloc();
-    let star = star_of(a, 6, A)?;
-    shares(&rt, a, &star, &[3, 4, 5], 0)?;
-    shares(&rt, a, &star, &[1, 2], 20)?;
-    shares(&rt, a, &star, &[1, 6, 4, 5], 10)?;
-    shares(&rt, a, &star, &[1, 1, 2, 1], 20)?;
-    shares(&rt, a, &star, &[], 0)?;
-    shares(&rt, a, &star, &[0, 7], 0)
+    let star = star_of(rt.alloc(), 6, A)?;
+    for row in SHARED {
+        shares(&rt, rt.alloc(), &star, row.0, row.1)?;
+    }
+    Ok(())
 }
 
 fn is_within_share<R: Abort>(
@@ -156,18 +127,27 @@ fn is_within_share<R: Abort>(
     Ok(())
 }
 
+// A shared length, gamma, the optimum's length, and whether it is within. The last rows are the greatest that there are.
+const LIMITS: &[(u64, (u64, u64), u64, bool)] = &[
+    (16, (4, 5), 20, true),
+    (17, (4, 5), 20, false),
+    (0, (0, 1), 20, true),
+    (1, (0, 1), 20, false),
+    (0, (0, 1), 0, true),
+    (MOST, (1000000, 1000000), MOST, true),
+    (288230087921335591, (999999, 1000000), MOST, true),
+    (288230087921335592, (999999, 1000000), MOST, false),
+];
+
+const MOST: u64 = 288230376151711743;
+
 #[test]
 fn shares_on_the_limit(rt: HostRuntime) -> Result<(), Fail> {
-    is_within_share(&rt, 16, (4, 5), 20, true)?;
-    is_within_share(&rt, 17, (4, 5), 20, false)?;
-    is_within_share(&rt, 0, (0, 1), 20, true)?;
-    is_within_share(&rt, 1, (0, 1), 20, false)?;
-    is_within_share(&rt, 0, (0, 1), 0, true)?;
-    // the greatest that there are
-    let most = 288230376151711743;
-    is_within_share(&rt, most, (1000000, 1000000), most, true)?;
-    is_within_share(&rt, 288230087921335591, (999999, 1000000), most, true)?;
-    is_within_share(&rt, 288230087921335592, (999999, 1000000), most, false)
+    for row in LIMITS {
+        let (sum, gamma, length, wanted) = *row;
+        is_within_share(&rt, sum, gamma, length, wanted)?;
+    }
+    Ok(())
 }
 
 #[test]

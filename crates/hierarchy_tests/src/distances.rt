@@ -1,19 +1,22 @@
+//! Distances by a hierarchy, from one vertex to another and to many.
+
 ghost use Rattle.std.specs.Prelude.{All, IfOk};
 ghost use Rattle.road_model.specs.Graph.{IsVertex};
 
-use super::*;
+use crate::graphs::star_of;
 use contraction_order::{order_by, order_of};
 use forward_star::Star;
 use hierarchy_build::contract;
+use hierarchy_query::{ClimbMemory, DistanceList, HierarchyOracle, one_to_many};
 use road_model::{Oracle, Vertex, VertexList};
 use std::alloc::Global;
 use std::process::Abort;
 use std::sync::Arc;
 use std::test::Fail;
-use worked_graphs::{Arcs, graph_of, vertex_of};
+use worked_graphs::{Arcs, vertex_of};
 
-// Six vertices with one-way, parallel and longer arcs, and a loop; nothing leads to 5.
-const MIXED: Arcs = &[
+/// Six vertices with one-way, parallel and longer arcs, and a loop; nothing leads to 5.
+pub const MIXED: Arcs = &[
     (1, 2, 10),
     (2, 6, 10),
     (1, 3, 11),
@@ -40,10 +43,6 @@ const PATH: Arcs = &[(1, 2, 5), (2, 3, 4294967295), (3, 4, 2)];
 // All lengths are equal, and two ways from 1 to 4.
 const SQUARE: Arcs = &[(1, 2, 1), (1, 3, 1), (2, 4, 1), (3, 4, 1), (4, 1, 1)];
 
-pub(crate) fn star_of(alloc: Global) -> Result<Star, Fail> {
-    Ok(Star::build(alloc, graph_of(alloc, 6, MIXED)?)?)
-}
-
 // The distances of these pairs, where the vertices of these numbers are contracted first.
 fn distances_of(
     alloc: Global,
@@ -66,7 +65,7 @@ fn distances_of(
 
 #[test]
 fn answers_where_1_is_contracted_first(rt: HostRuntime) -> Result<(), Fail> {
-    let star = star_of(rt.alloc())?;
+    let star = star_of(rt.alloc(), 6, MIXED)?;
     let pairs = [(2, 4), (1, 5), (1, 6), (6, 6), (5, 6), (2, 4)];
     let wanted = [Some(7), None, Some(20), Some(0), Some(4294967315), Some(7)];
     let distances = distances_of(rt.alloc(), &star, &[], &pairs)?;
@@ -76,7 +75,7 @@ fn answers_where_1_is_contracted_first(rt: HostRuntime) -> Result<(), Fail> {
 
 #[test]
 fn answers_where_3_is_contracted_first(rt: HostRuntime) -> Result<(), Fail> {
-    let star = star_of(rt.alloc())?;
+    let star = star_of(rt.alloc(), 6, MIXED)?;
     let pairs = [(2, 4), (1, 5), (1, 6), (6, 6), (5, 6), (1, 3)];
     let wanted = [Some(7), None, Some(20), Some(0), Some(4294967315), Some(11)];
     let distances = distances_of(rt.alloc(), &star, &[3, 1, 4], &pairs)?;
@@ -149,20 +148,20 @@ fn answers_the_same_in_a_list_and_in_a_memory_that_is_kept(rt: HostRuntime) -> R
     let a = rt.alloc();
     let memory = ClimbMemory::new(a);
     let wanted = [Some(7), None, Some(7), Some(10), Some(0), None];
-    let mixed = star_of(a)?;
+    let mixed = star_of(a, 6, MIXED)?;
     let memory = answers_both_ways(&rt, a, memory, &mixed, 2, &[4, 5, 4, 6, 2, 1], &wanted)?;
-    let bare = Star::build(a, graph_of(a, 3, &[])?)?;
+    let bare = star_of(a, 3, &[])?;
     let memory = answers_both_ways(&rt, a, memory, &bare, 2, &[1, 2, 3], &[None, Some(0), None])?;
-    let one = Star::build(a, graph_of(a, 1, &[])?)?;
+    let one = star_of(a, 1, &[])?;
     let memory = answers_both_ways(&rt, a, memory, &one, 1, &[1], &[Some(0)])?;
     let wanted = [Some(3), Some(0), Some(5), Some(2)];
-    let leaves = Star::build(a, graph_of(a, 4, LEAVES)?)?;
+    let leaves = star_of(a, 4, LEAVES)?;
     let memory = answers_both_ways(&rt, a, memory, &leaves, 3, &[2, 3, 4, 1], &wanted)?;
     let wanted = [None, Some(0), Some(4294967295), Some(4294967297)];
-    let path = Star::build(a, graph_of(a, 4, PATH)?)?;
+    let path = star_of(a, 4, PATH)?;
     let memory = answers_both_ways(&rt, a, memory, &path, 2, &[1, 2, 3, 4], &wanted)?;
     let wanted = [Some(2), Some(1), Some(1), Some(0)];
-    let square = Star::build(a, graph_of(a, 4, SQUARE)?)?;
+    let square = star_of(a, 4, SQUARE)?;
     answers_both_ways(&rt, a, memory, &square, 1, &[4, 2, 3, 1], &wanted)?;
     Ok(())
 }

@@ -1,26 +1,27 @@
+//! Distances from one vertex, worked out as they are asked for.
+
 ghost use Rattle.std.specs.Prelude.{◌≡◌, IfOk};
 
-use super::*;
-use crate::tests::star_of;
+use crate::distances::MIXED;
+use crate::graphs::star_of;
 use contraction_order::order_by;
 use forward_star::Star;
 use hierarchy_build::contract;
-use road_model::Vertex;
+use hierarchy_query::{DistanceList, DistancesFrom};
 use std::alloc::Global;
 use std::sync::Arc;
 use std::test::Fail;
+use worked_graphs::vertex_of;
 
 // The distances from vertex 1, where the vertices of these numbers are contracted first.
 fn distances_from_1(alloc: Global, star: &Star, wishes: &[u32]) -> Result<DistancesFrom, Fail>
     ensures { IfOk result (λ d. d.graph.vertices ≡ star.now.vertices) }
 {
     let vertices = star.vertices();
-    if vertices == 0 {
-        return Err("no vertex".into());
-    }
+    let first = vertex_of(vertices, 1)?;
     let order = order_by(alloc, vertices, wishes)?;
     let hierarchy = Arc::new(alloc, contract(alloc, star, order)?)?;
-    let known = DistancesFrom::of(alloc, hierarchy, Vertex(1))?;
+    let known = DistancesFrom::of(alloc, hierarchy, first)?;
     Ok(known)
 }
 
@@ -36,16 +37,11 @@ fn asked_from(
     ensures { known.new.graph.vertices ≡ star.now.vertices }
 {
     let vertices = star.vertices();
-    if from == 0 || from > vertices {
-        return Err("no such source".into());
-    }
-    known.restart(Vertex(from));
+    known.restart(vertex_of(vertices, from)?);
     let mut distances = DistanceList::new(alloc);
     for number in numbers {
-        if *number == 0 || *number > vertices {
-            return Err("no such target".into());
-        }
-        distances.push(known.distance(Vertex(*number))?)?;
+        let to = vertex_of(vertices, *number)?;
+        distances.push(known.distance(to)?)?;
     }
     Ok(distances)
 }
@@ -103,11 +99,8 @@ fn wrong_row(
 
 #[test]
 fn tells_distances_from_one_source_after_another(rt: HostRuntime) -> Result<(), Fail> {
-    let star = star_of(rt.alloc())?;
-    let orders: [&[u32]; 2] = [&[], &[3, 1, 4]];
-    for wishes in orders {
-        let wrong = wrong_row(rt.alloc(), &star, wishes, ROWS)?;
-        assert_eq!(rt; wrong, None);
-    }
+    let star = star_of(rt.alloc(), 6, MIXED)?;
+    assert_eq!(rt; wrong_row(rt.alloc(), &star, &[], ROWS)?, None);
+    assert_eq!(rt; wrong_row(rt.alloc(), &star, &[3, 1, 4], ROWS)?, None);
     Ok(())
 }
