@@ -9,8 +9,6 @@
 mod descent;
 mod kept;
 mod path;
-#[cfg(test)]
-mod tests;
 mod tree_memory;
 mod tree_pair;
 

@@ -11,6 +11,3 @@ mod star;
 mod topology;
 
 pub use star::{Reversed, Star};
-
-#[cfg(test)]
-mod tests;

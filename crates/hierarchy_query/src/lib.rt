@@ -14,8 +14,3 @@ pub use distances::DistancesFrom;
 pub use hill_memory::HillMemory;
 pub use oracle::HierarchyOracle;
 pub use tables::{DistanceList, one_to_many};
-
-#[cfg(test)]
-mod distance_tests;
-#[cfg(test)]
-mod tests;

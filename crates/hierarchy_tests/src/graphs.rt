@@ -6,9 +6,10 @@ ghost use Rattle.road_model.specs.Graph.{IsVertex};
 use forward_star::Star;
 use rand_core::utils::NextWord;
 use rand_xoshiro::SplitMix64;
-use road_model::{ArcRow, ArcRows, GraphFile, Vertex};
+use road_model::Vertex;
 use std::alloc::{AllocError, Global};
 use std::test::Fail;
+use worked_graphs::graph_of;
 
 /// Tail, head and length of an arc.
 pub type Arc = (u32, u32, u64);
@@ -35,24 +36,8 @@ pub fn drawn(words: &mut SplitMix64, vertices: u32) -> Vertex
 }
 
 /// The graph of these arcs; one outside the limits fails the test.
-pub fn graph_of(alloc: Global, vertices: u32, arcs: &[Arc]) -> Result<Star, Fail> {
-    let mut rows = ArcRows::new(alloc);
-    if vertices > 33554432 || arcs.len() > 67108864 {
-        return Err("too large a graph".into());
-    }
-    for arc in arcs {
-        let (tail, head, length) = *arc;
-        let ends = tail >= 1 && tail <= vertices && head >= 1 && head <= vertices;
-        if !ends || length < 1 || length > 4294967295 {
-            return Err("an arc outside the limits".into());
-        }
-        rows.push(ArcRow {
-            tail: Vertex(tail),
-            head: Vertex(head),
-            length,
-        })?;
-    }
-    Ok(Star::build(alloc, GraphFile::new(vertices, rows))?)
+pub fn star_of(alloc: Global, vertices: u32, arcs: &[Arc]) -> Result<Star, Fail> {
+    Ok(Star::build(alloc, graph_of(alloc, vertices, arcs)?)?)
 }
 
 /// Random arcs: loops, parallel ones and ties among them, and unreachable parts where they are few.

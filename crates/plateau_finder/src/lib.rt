@@ -10,8 +10,6 @@ mod chains;
 mod finding;
 mod links;
 mod plateau;
-#[cfg(test)]
-mod tests;
 
 pub use finding::{plateau_of, plateau_through, plateaus, plateaus_within};
 pub use plateau::{Plateau, PlateauList};

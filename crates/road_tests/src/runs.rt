@@ -25,7 +25,8 @@ pub struct Run<'a> {
 /// No call fails.
 pub const NEVER: &[u64] = &[];
 
-fn strings(alloc: Global, words: &str) -> Result<Vec<String>, AllocError> {
+/// The words, between spaces.
+pub fn strings(alloc: Global, words: &str) -> Result<Vec<String>, AllocError> {
     let mut strings = Vec::new(alloc);
     if words.is_empty() {
         return Ok(strings);
@@ -34,6 +35,11 @@ fn strings(alloc: Global, words: &str) -> Result<Vec<String>, AllocError> {
         strings.push(String::from_str(alloc, word)?)?;
     }
     Ok(strings)
+}
+
+/// The bytes, as a message shows them.
+fn text_of(bytes: &[u8]) -> &str {
+    str::from_utf8(bytes).unwrap_or("no text")
 }
 
 /// Runs a command, whose reads give at most `piece` bytes, or as many as fit where it is 0.
@@ -52,8 +58,19 @@ pub fn check<R: Abort + Threads + Sync>(
     let mut input = MemSource::new(row.input, piece, row.input_fails);
     let mut output = MemSink::new(alloc, row.output_fails);
     let status = run(rt, alloc, &words, &mut shelf, &mut input, &mut output);
-    assert_eq!(rt; status, row.status);
-    assert_eq!(rt; output.bytes(), row.output);
+    let (file, input) = (text_of(row.file), text_of(row.input));
+    assert_eq!(rt;
+        status,
+        row.status,
+        "{} of {file:?} on {input:?}",
+        row.words
+    );
+    assert_eq!(rt;
+        output.bytes(),
+        row.output,
+        "{} of {file:?} on {input:?}",
+        row.words
+    );
     Ok(())
 }
 
@@ -75,8 +92,7 @@ pub fn answers<R: Abort + Threads + Sync>(
         status: Status::Done,
         output,
     };
-    for piece in [0, 1, 3] {
-        check(rt, alloc, &row, piece)?;
-    }
-    Ok(())
+    check(rt, alloc, &row, 0)?;
+    check(rt, alloc, &row, 1)?;
+    check(rt, alloc, &row, 3)
 }

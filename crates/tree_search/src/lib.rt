@@ -12,6 +12,3 @@ pub mod search;
 pub use label_setting::SearchMemory;
 pub use labels::{Ball, Labels};
 pub use oracle::PlainOracle;
-
-#[cfg(test)]
-mod tests;

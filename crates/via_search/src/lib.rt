@@ -18,6 +18,3 @@ mod verdicts;
 pub use memory::PlanMemory;
 pub use planning::{plan, plan_in, plan_with};
 pub use verdicts::{verdict, verdict_in, verdict_with};
-
-#[cfg(test)]
-mod tests;

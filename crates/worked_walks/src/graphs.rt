@@ -6,31 +6,11 @@ use canonical_trees::optimum;
 use forward_star::Star;
 use local_optimality::local;
 use path_tests::{shared, stretch};
-use road_model::{
-    ArcList, ArcNo, ArcRow, ArcRows, GraphFile, NoMemory, Pair, Ratio, Trail, Vertex,
-};
+use road_model::{ArcList, ArcNo, NoMemory, Pair, Ratio, Trail, Vertex};
 use std::alloc::Global;
 use std::test::Fail;
 use tree_search::PlainOracle;
-
-/// The arcs of a graph, as (tail, head, length).
-pub type Arcs = &'static [(u32, u32, u64)];
-
-/// A tie: vertex 3 is 11 from vertex 1 by arc 3, and by the arcs 1 and 6.
-pub const A: Arcs = &[
-    (1, 2, 10),
-    (2, 6, 10),
-    (1, 3, 11),
-    (3, 4, 6),
-    (4, 6, 5),
-    (2, 3, 1),
-];
-
-/// A detour of two long arcs.
-pub const B: Arcs = &[(1, 2, 10), (2, 6, 10), (1, 3, 11), (3, 6, 11), (2, 3, 1)];
-
-/// A stub at vertex 4.
-pub const S: Arcs = &[(1, 2, 1), (2, 3, 1), (2, 4, 1), (4, 2, 1)];
+use worked_graphs::graph_of;
 
 /// A test of a walk.
 #[derive(Drop)]
@@ -48,23 +28,7 @@ pub struct ViaWalk {
 
 /// The star of a graph; an arc outside the limits fails the test.
 pub fn star_of(alloc: Global, vertices: u32, arcs: &[(u32, u32, u64)]) -> Result<Star, Fail> {
-    let mut rows = ArcRows::new(alloc);
-    if vertices > 33554432 || arcs.len() > 67108864 {
-        return Err("too large a graph".into());
-    }
-    for arc in arcs {
-        let (tail, head, length) = *arc;
-        let ends = tail >= 1 && tail <= vertices && head >= 1 && head <= vertices;
-        if !ends || length < 1 || length > 4294967295 {
-            return Err("an arc outside the limits".into());
-        }
-        rows.push(ArcRow {
-            tail: Vertex(tail),
-            head: Vertex(head),
-            length,
-        })?;
-    }
-    Ok(Star::build(alloc, GraphFile::new(vertices, rows))?)
+    Ok(Star::build(alloc, graph_of(alloc, vertices, arcs)?)?)
 }
 
 pub fn arc_list(alloc: Global, numbers: &[u32]) -> Result<ArcList, NoMemory> {

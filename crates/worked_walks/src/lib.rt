@@ -1,8 +1,18 @@
-//! Tests of the tests of a path, of ranks and of their order, on small graphs whose answers were worked out by
-//! hand. Walks are canonical paths of a star, and distances are found by searches of it.
+//! Tests of stars, searches, trees, plateaus, plans, tests of paths and ranks, on small graphs whose answers were worked
+//! out by hand. They stand here and not in the crates that they test, since a crate is proved anew with its tests.
 #![tactic(auto)]
 
 #[cfg(test)]
 mod graphs;
 #[cfg(test)]
-mod tests;
+mod plans;
+#[cfg(test)]
+mod plateau_lists;
+#[cfg(test)]
+mod searches;
+#[cfg(test)]
+mod stars;
+#[cfg(test)]
+mod tree_pairs;
+#[cfg(test)]
+mod walks;

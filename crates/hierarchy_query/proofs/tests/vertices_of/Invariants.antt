@@ -1,6 +1,0 @@
-use Rattle.std.proofs.Common.{All}
-use Rattle.road_model.specs.Graph.{IsVertex}
-use Rattle.hierarchy_query.proofs.tests.vertices_of.Given as goal
-
-abbrev pub invariant-loop-number : goal.invariant-loop-number
-invariant-loop-number l = All (IsVertex l.vertices) l.list
