@@ -3,12 +3,13 @@
 bench/yardstick, which it builds with rustc, or one that is named.
 
 A graph is a file, or `grid:W:H` (made by `road make 7 W H`), or `road:SIDE` (bench/network.py 1 SIDE), or one of
-bench/networks.py, as `star:100000` or `ladder:5000`. Each round runs `answer` over the graph with random pairs and without a request, and takes the difference; the plain program, which takes
-the same words, is run in turn, and the bytes of both are compared. `why` lines ask for a third random vertex. With a rank
-the targets are near: from each random source the 2^K-th vertex in the order of distance. With --before N so many more pairs
-are answered first, and not counted: by then the server may have built its hierarchy. With --source and --target what is
-counted is one line alone, between these two. Times are means over the pairs, of the
-quickest round; the spread is the slowest round's by the quickest. Memory is the peak of the resident set.
+bench/networks.py, as `star:100000` or `ladder:5000`. Each round runs `answer` over the graph with random pairs and without
+a request; what the pairs take is that run beyond the quickest without. The plain program, which takes the same words, is
+run in turn, and the bytes of both are compared. `why` lines ask for a third random vertex. With a rank the targets are
+near: from each random source the 2^K-th vertex in the order of distance. With --before N so many more pairs are answered
+first, and not counted. With --source and --target what is counted is one line alone, between these two. Times are means
+over the pairs, of the quickest round; the spread is the slowest round's by the quickest. Memory is the peak of the resident
+set.
 """
 import array
 import heapq
@@ -93,14 +94,14 @@ def run(words, text):
 
 
 def milliseconds(words, text, pairs, rounds):
-    """The mean of each round over the last so many lines, beyond what the lines before take; and the bytes."""
-    times, output = [], b""
+    """The mean of each round over the last so many lines, beyond what the lines before take at least; and the bytes."""
+    readings, wholes, output = [], [], b""
     before = b"".join(text.splitlines(keepends=True)[:-pairs])
     for _ in range(rounds):
-        reading, _some = run(words, before)
+        readings.append(run(words, before)[0])
         whole, output = run(words, text)
-        times.append((whole - reading) * 1000 / pairs)
-    return times, output
+        wholes.append(whole)
+    return [(whole - min(readings)) * 1000 / pairs for whole in wholes], output
 
 
 def main():
