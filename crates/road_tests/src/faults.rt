@@ -131,6 +131,11 @@ enum Place {
     Output,
 }
 
+/// The calls that fail at one place, where those that do belong to another, or to the same.
+fn failing_at(place: Place, chosen: Place, failing: &[u64]) -> &[u64] {
+    if place == chosen { failing } else { NEVER }
+}
+
 /// How a command over a small graph ends, and what it writes, where these calls fail. Reads give 16 bytes.
 fn outcome<R: Threads + Sync>(
     rt: &R,
@@ -143,11 +148,10 @@ fn outcome<R: Threads + Sync>(
         name: "a.gr",
         bytes: SMALL,
     }];
-    let at = |other: Place| if place == other { failing } else { NEVER };
-    let mut shelf = MemShelf::new(&files, 16, at(Place::File));
+    let mut shelf = MemShelf::new(&files, 16, failing_at(Place::File, place, failing));
     let input = b"optimum 1 3\nversion\nroute 1 6\nlength 1 50\npublish\nwhy 1 6 4\n";
-    let mut input = MemSource::new(input, 16, at(Place::Input));
-    let mut output = MemSink::new(alloc, at(Place::Output));
+    let mut input = MemSource::new(input, 16, failing_at(Place::Input, place, failing));
+    let mut output = MemSink::new(alloc, failing_at(Place::Output, place, failing));
     let status = run(rt, alloc, words, &mut shelf, &mut input, &mut output);
     Ok((status, Vec::from_slice(alloc, output.bytes())?))
 }
