@@ -149,28 +149,19 @@ fn refused<R: Abort>(
     assert_eq!(rt; found, wanted, "{first} {length}, {second} {other}");
 }
 
-const ARC: Option<ChangeFault> = Some(ChangeFault::ArcRange);
-
-const LENGTH: Option<ChangeFault> = Some(ChangeFault::LengthRange);
-
-// An arc and its new length, twice, and what the changes are refused for.
-const CHANGES: &[([(u32, u64); 2], Option<ChangeFault>)] = &[
-    ([(1, 1), (2, 4294967295)], None),
-    ([(0, 1), (1, 1)], ARC),
-    ([(1, 1), (3, 1)], ARC),
-    ([(2, 0), (1, 1)], LENGTH),
-    ([(1, 1), (1, 4294967296)], LENGTH),
-    ([(3, 0), (1, 1)], ARC),
-    ([(1, 0), (3, 1)], LENGTH),
-    ([(3, 1), (1, 0)], ARC),
-];
-
 #[test]
 fn refuses_changes_by_the_first_that_fails(rt: HostRuntime) -> Result<(), Fail> {
     let a = rt.alloc();
     let star = star_of(a, 2, &[(1, 2, 5), (2, 1, 6)])?;
-    for row in CHANGES {
-        refused(&rt, a, &star, row.0, row.1);
-    }
+    let arc = Some(ChangeFault::ArcRange);
+    let length = Some(ChangeFault::LengthRange);
+    refused(&rt, a, &star, [(1, 1), (2, 4294967295)], None);
+    refused(&rt, a, &star, [(0, 1), (1, 1)], arc);
+    refused(&rt, a, &star, [(1, 1), (3, 1)], arc);
+    refused(&rt, a, &star, [(2, 0), (1, 1)], length);
+    refused(&rt, a, &star, [(1, 1), (1, 4294967296)], length);
+    refused(&rt, a, &star, [(3, 0), (1, 1)], arc);
+    refused(&rt, a, &star, [(1, 0), (3, 1)], length);
+    refused(&rt, a, &star, [(3, 1), (1, 0)], arc);
     Ok(())
 }

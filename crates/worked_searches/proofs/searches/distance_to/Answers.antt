@@ -1,6 +1,6 @@
 use Rattle.std.proofs.Common.{◌^◌, arith}
 use Rattle.forward_star.proofs.Bound.{dists_below, DistsBelow-weaker}
-use Rattle.worked_walks.proofs.searches.distance_to.Goals as goal
+use Rattle.worked_searches.proofs.searches.distance_to.Goals as goal
 
 pub labels_to-requires-clause-near : goal.labels_to-requires-clause-near
 labels_to-requires-clause-near c =

@@ -3,7 +3,7 @@ use Rattle.road_model.specs.Graph.{Graph}
 use Rattle.road_model.specs.Dist.{DistsBelow}
 use Rattle.forward_star.proofs.Bound.{dists_below, DistsBelow-weaker}
 use Rattle.tree_search.specs.Ball.{IsBounded}
-use Rattle.worked_walks.proofs.searches.ball_of.Goals as goal
+use Rattle.worked_searches.proofs.searches.ball_of.Goals as goal
 
 bounded : (g : Graph) (radius : Option ℕ) → DistsBelow g (2 ^ 58) → unwrap_or radius 0 ≤ 1000000000 → IsBounded g radius
 bounded g None near low = near

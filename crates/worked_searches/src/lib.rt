@@ -1,0 +1,9 @@
+//! Tests of stars and searches, on small graphs whose answers were worked out by hand.
+#![tactic(auto)]
+
+#[cfg(test)]
+mod graphs;
+#[cfg(test)]
+mod searches;
+#[cfg(test)]
+mod stars;
