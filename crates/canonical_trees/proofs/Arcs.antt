@@ -4,10 +4,11 @@ use Rattle.road_model.specs.declared.rows.ArcRow.{ArcRow}
 use Rattle.road_model.specs.declared.network.Step.{Step}
 use Rattle.road_model.specs.Graph.{Graph, turned, reversed}
 use Rattle.road_model.specs.Canonical.{IsFirst}
+use Rattle.road_model.proofs.Basics.{reverse-cons}
 use Rattle.tree_search.specs.Ball.{Reached}
 use Rattle.canonical_trees.specs.Tight.{IsRooted, IsLeastStep, IsStepDown}
 use Rattle.canonical_trees.specs.Trees.{IsLastStep, IsFirstStep, IsFromStep, IsToStep, IsLastArc, IsFirstArc, IsTreeFrom, IsTreeTo}
-use Rattle.canonical_trees.proofs.Turned.{arc_unreversed, reverse-cons, IsFirst-unreversed}
+use Rattle.canonical_trees.proofs.Turned.{arc_unreversed, IsFirst-unreversed}
 use Rattle.canonical_trees.proofs.StepsDown.{IsLast-step}
 use Rattle.canonical_trees.proofs.Existence.{last_exists}
 use Rattle.canonical_trees.proofs.Balls.{rooted_from, rooted_to, inside_of, IsInside-unreversed, IsLabel-unreversed}

@@ -1,18 +1,11 @@
 -- The path through a vertex is one walk, made of two parts.
-use Rattle.std.proofs.Common.{◌≡◌, ℕ, ◌+◌, List, ◌++◌, Some, sym, ap, ◌∙◌, subst, arith}
+use Rattle.std.proofs.Common.{◌≡◌, ℕ, ◌+◌, List, Some, sym, ap, ◌∙◌, subst, arith}
 use Rattle.road_model.specs.Graph.{Graph}
 use Rattle.road_model.specs.Walk.{IsWalk, walk_length}
 use Rattle.road_model.specs.Dist.{IsDist}
 use Rattle.road_model.specs.Alternatives.{IsVia}
 use Rattle.road_model.proofs.Walks.{IsWalk-append, walk_length-append}
 use Rattle.road_model.proofs.Dists.{IsDist-same, dist_of_shortest}
-use Rattle.road_model.proofs.CanonicalWalks.{IsFirst-unique, IsLast-unique}
-
-pub IsVia-unique : (g : Graph) (s t v : ℕ) (p q : List ℕ) → IsVia g s t v p → IsVia g s t v q → p ≡ q
-IsVia-unique g s t v p q h k =
-    let prefix : h.prefix ≡ k.prefix = IsFirst-unique g s v h.prefix k.prefix h.first k.first in
-    let back : h.back ≡ k.back = IsLast-unique g v t h.back k.back h.last k.last in
-    h.joined ∙ (ap (λ (x : List ℕ). x ++ h.back) prefix ∙ (ap (λ (x : List ℕ). k.prefix ++ x) back ∙ sym k.joined))
 
 pub via_walk : (g : Graph) (s t v : ℕ) (p : List ℕ) → IsVia g s t v p → IsWalk g s p t
 via_walk g s t v p h =

@@ -1,15 +1,12 @@
 -- Shortest and canonical walks of the reversed graph.
-use Rattle.std.proofs.Common.{◌≡◌, ℕ, List, [], ◌∷◌, ◌++◌, reverse, Option, Some, sym, ap, ◌∙◌, subst, arith}
+use Rattle.std.proofs.Common.{◌≡◌, ℕ, List, reverse, Option, Some, sym, ap, ◌∙◌, subst, arith}
 use Rattle.std.specs.Option.{option_map}
-use Rattle.std.proofs.lemmas.List.{reverse-reverse, reverse-append}
+use Rattle.std.proofs.lemmas.List.{reverse-reverse}
 use Rattle.road_model.specs.declared.rows.ArcRow.{ArcRow}
 use Rattle.road_model.specs.Graph.{Graph, arc_at, turned, reversed}
 use Rattle.road_model.specs.Dist.{IsShortest}
 use Rattle.road_model.specs.Canonical.{LexLe, IsFirst, IsLast}
 use Rattle.forward_star.proofs.Turned.{reversed-reversed, arc_at-reversed, IsWalk-reversed, IsWalk-unreversed, walk_length-reversed, walk_length-unreversed}
-
-pub reverse-cons : (a : ℕ) (p : List ℕ) → reverse (a ∷ p) ≡ reverse p ++ a ∷ []
-reverse-cons a p = reverse-append (a ∷ []) p
 
 pub arc_unreversed : (g : Graph) (a : ℕ) (r : ArcRow) → arc_at (reversed g) a ≡ Some r → arc_at g a ≡ Some (turned r)
 arc_unreversed g a r is =

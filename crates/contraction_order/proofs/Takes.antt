@@ -1,11 +1,11 @@
 -- Vertices taken one after another.
-use Rattle.std.proofs.Common.{◌≡◌, ◌≢◌, ◌+◌, ◌-◌, ◌<◌, ◌≤◌, ◌⊎◌, ℕ, zero, suc, List, [], ◌∷◌, ◌++◌, length, slice_index, set, sum, replicate, refl, sym, ap, ◌∙◌, subst, arith, inl, inr, ⊎_elim, get_or-set_same, get_or-set_other, length-append}
+use Rattle.std.proofs.Common.{◌≡◌, ◌≢◌, ◌+◌, ◌-◌, ◌<◌, ◌⊎◌, ℕ, zero, suc, List, [], ◌∷◌, ◌++◌, length, slice_index, set, sum, replicate, refl, sym, ap, ◌∙◌, subst, arith, inl, inr, ⊎_elim, get_or-set_same, get_or-set_other, length-append}
 use Rattle.std.specs.List.{All, Contains}
 use Rattle.std.proofs.Math.ListN.{length-set}
-use Rattle.std.proofs.lemmas.Bool.{cases_lt}
 use Rattle.std.proofs.lemmas.List.Sums.{sum_by-set, sum_by-cons}
 use Rattle.std.proofs.lemmas.List.Elements.{All-push, Contains-append_left, Contains-push}
 use Rattle.road_model.specs.Graph.{IsVertex}
+use Rattle.road_model.proofs.Basics.{same_or_other}
 use Rattle.contraction_order.specs.Order.{IsOrder, AreTaken}
 
 all_ones : (xs : List ℕ) → ((k : ℕ) → k < length xs → slice_index xs k ≡ 1) → sum xs ≡ length xs
@@ -34,17 +34,6 @@ AreTaken-none n =
       inside = (λ k d inside. absurd (let low : k < 0 = inside in omega arith));
       flags = (λ v is_v. inl (zero_at n (v - 1)));
     }
-
-pub same_or_other : (a b : ℕ) → (a ≡ b) ⊎ (a ≢ b)
-same_or_other a b =
-    ⊎_elim
-    (λ (lt : a < b). let r : (a ≡ b) ⊎ (a ≢ b) = inr (λ e. absurd (omega arith)) in r)
-    (λ (ge : b ≤ a).
-    ⊎_elim
-    (λ (gt : b < a). let r : (a ≡ b) ⊎ (a ≢ b) = inr (λ e. absurd (omega arith)) in r)
-    (λ (le : a ≤ b). let same : a ≡ b = omega arith in let r : (a ≡ b) ⊎ (a ≢ b) = inl same in r)
-    (cases_lt b a))
-    (cases_lt a b)
 
 pub AreTaken-more : (taken vs : List ℕ) (v : ℕ) → AreTaken taken vs → IsVertex (length taken) v → slice_index taken (v - 1) ≡ 0 → AreTaken (set taken (v - 1) 1) (vs ++ v ∷ [])
 AreTaken-more taken vs v h is_v free =

@@ -20,7 +20,7 @@ use Rattle.desk_core.specs.Refusals.{outcome}
 use Rattle.desk_core.specs.Replies.{best_reply, more_of, why_reply, IsPageReply}
 use Rattle.desk_core.specs.Desks.{DeskState, desk_limits, IsDeskAnswer, IsDeskAnswered, IsDeskStep, ShowsSpan}
 
-span_inside : (total size offset : ℕ) (span : PageSpan) → IsPage total size offset span → span.first + span.count ≤ total
+pub span_inside : (total size offset : ℕ) (span : PageSpan) → IsPage total size offset span → span.first + span.count ≤ total
 span_inside total size offset span p =
     let first : span.first ≡ min offset total = p.is_first in
     let count : span.count ≡ min size (total - span.first) = p.is_count in

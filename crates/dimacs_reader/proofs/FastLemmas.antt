@@ -8,15 +8,12 @@ use Rattle.std.proofs.lemmas.Bool.{and_parts, and_from}
 use Rattle.std.proofs.lemmas.Bool.Decides.{nat_tests}
 use Rattle.std.proofs.lemmas.List.Edits.{between_more, between_none, length-between}
 use Rattle.std.proofs.lemmas.Int.Digits.{digits_value_push}
-use Rattle.std.proofs.lemmas.Str.Parse.{IsNumeralModel, numerals_by_value, tells_all_ascii_digits, digits_value_short}
+use Rattle.std.proofs.lemmas.Str.Parse.{digits_value_short}
 use Rattle.road_text.specs.Fields.{is_blank, fields_of, first_byte}
 use Rattle.road_text.proofs.FieldLemmas.{Passes, fields_of-found, fields_of-passed, fields_of-past, first_byte-at}
-use Rattle.road_text.proofs.NumberLemmas.{number_of-digits, digit_value-is}
+use Rattle.road_text.proofs.NumberLemmas.{number_of-digits, digit_value-is, by_ascii_digits}
 use Rattle.dimacs_reader.specs.Gr.{is_comment, is_byte}
 use Rattle.dimacs_reader.specs.Fast.{IsNumberField, AreArcFields}
-
-by_digits : IsNumeralModel (λ ds. all_ascii_digits ds ≡ true) (digits_value 10)
-by_digits = numerals_by_value (λ ds. all_ascii_digits ds ≡ true) tells_all_ascii_digits
 
 -- the digits from a place up to another, and what they are worth
 pub record AreDigits (line : List ℕ) (at i n : ℕ) : Type 0 where
@@ -47,13 +44,13 @@ AreDigits-more line at i n low lt e so_far =
 -- at most 18 digits leave room for one more
 pub AreDigits-small : (line : List ℕ) (at i n : ℕ) → at ≤ i → i ≤ length line → i - at ≤ 18 → AreDigits line at i n → n < 10 ^ 18
 AreDigits-small line at i n low high few so_far =
-    let small : digits_value 10 (between at i line) < 10 ^ 18 = digits_value_short by_digits (between at i line) 18 so_far.digits (omega (arith, length-between line at i high)) in
+    let small : digits_value 10 (between at i line) < 10 ^ 18 = digits_value_short by_ascii_digits (between at i line) 18 so_far.digits (omega (arith, length-between line at i high)) in
     rw so_far.value small
 
 digit_passes : (c : ℕ) → is_ascii_digit c ≡ true → is_blank c ≡ false
 digit_passes c e = grind (arith, nat_tests)
 
-digits_pass : (ds : List ℕ) → all_ascii_digits ds ≡ true → Passes ds
+pub digits_pass : (ds : List ℕ) → all_ascii_digits ds ≡ true → Passes ds
 digits_pass [] h = tt
 digits_pass (d ∷ ds) h =
     let both = and_parts (is_ascii_digit d) (all_ascii_digits ds) h in

@@ -5,13 +5,11 @@ use Rattle.std.specs.List.{flat_map, cons_option, All, AllByRecursion}
 use Rattle.std.specs.Option.{option_or}
 use Rattle.std.specs.Char.{is_ascii_digit}
 use Rattle.std.specs.Str.{all_ascii_digits}
-use Rattle.std.specs.Str.Parse.{digits_value}
 use Rattle.std.proofs.lemmas.Bool.{and_parts, ne_eqb, lt-leb, le-ltb, eqb-false}
 use Rattle.std.proofs.lemmas.Bool.Decides.{nat_tests}
 use Rattle.std.proofs.lemmas.Fmt.{digits_decimal, digits_value-decimal, decimal_nonempty, length-decimal-le}
 use Rattle.std.proofs.lemmas.List.{append-nil, length-append, length_push, get_or-append_right}
 use Rattle.std.proofs.lemmas.List.Elements.{All-head, All-tail}
-use Rattle.std.proofs.lemmas.Str.Parse.{IsNumeralModel, numerals_by_value, tells_all_ascii_digits}
 use Rattle.road_model.specs.declared.rows.ArcRow.{ArcRow}
 use Rattle.road_model.specs.declared.graph_file.TheConstants.{MAX_VERTICES, MAX_ARCS, MAX_LENGTH}
 use Rattle.road_model.specs.Graph.{Graph, IsArc}
@@ -20,8 +18,8 @@ use Rattle.road_text.specs.Lines.{HasNoFeed, lines_of, without_return}
 use Rattle.road_text.specs.Fields.{is_blank, fields_of}
 use Rattle.road_text.specs.Numbers.{number_of}
 use Rattle.road_text.proofs.LineLemmas.{HasNoFeed-append, lines_of-line, lines_of-nil, without_return-plain}
-use Rattle.road_text.proofs.FieldLemmas.{Passes, fields_of-field, fields_of-last, first_byte-stop}
-use Rattle.road_text.proofs.NumberLemmas.{number_of-digits}
+use Rattle.road_text.proofs.FieldLemmas.{fields_of-field, fields_of-last, first_byte-stop}
+use Rattle.road_text.proofs.NumberLemmas.{number_of-digits, by_ascii_digits}
 use Rattle.dimacs_reader.specs.declared.fault.GraphKind.{GraphKind}
 use Rattle.dimacs_reader.specs.declared.line.Problem.{Problem}
 use Rattle.dimacs_reader.specs.declared.line.TheConstants.{MAX_FILE}
@@ -33,26 +31,18 @@ use Rattle.dimacs_reader.proofs.JudgeLemmas.{Judges-cut}
 use Rattle.dimacs_reader.proofs.GrLemmas.{problem_in-nil, arcs_in-nil, problem_in-push, arcs_in-push, first_fault-nil, first_fault-cons, fault_at_state}
 use Rattle.dimacs_reader.proofs.BuilderLemmas.{end_fault-full}
 use Rattle.dimacs_reader.proofs.ReadLemmas.{gr_text-short, graph_of-graph}
+use Rattle.dimacs_reader.proofs.FastLemmas.{digits_pass}
 
 -- ---- digits
-
-by_digits : IsNumeralModel (λ ds. all_ascii_digits ds ≡ true) (digits_value 10)
-by_digits = numerals_by_value (λ ds. all_ascii_digits ds ≡ true) tells_all_ascii_digits
 
 pub number_of-decimal : (n : ℕ) → n < 10 ^ 19 → number_of (decimal n) ≡ Some n
 number_of-decimal n small =
     let fits : n < 2 ^ 64 = omega arith in
-    number_of-digits (decimal n) (decimal_nonempty n fits) (length-decimal-le 19 n (lit< tt) small fits) (digits_decimal by_digits n fits)
-    ∙ ap (λ (m : ℕ). Some m) (digits_value-decimal by_digits n fits)
+    number_of-digits (decimal n) (decimal_nonempty n fits) (length-decimal-le 19 n (lit< tt) small fits) (digits_decimal by_ascii_digits n fits)
+    ∙ ap (λ (m : ℕ). Some m) (digits_value-decimal by_ascii_digits n fits)
 
 digit_facts : (c : ℕ) → is_ascii_digit c ≡ true → (is_blank c ≡ false) × (c ≢ 10) × (c ≢ 13)
 digit_facts c e = grind (arith, nat_tests)
-
-digits_pass : (ds : List ℕ) → all_ascii_digits ds ≡ true → Passes ds
-digits_pass [] h = tt
-digits_pass (d ∷ ds) h =
-    let both = and_parts (is_ascii_digit d) (all_ascii_digits ds) h in
-    ((digit_facts d both.0).0, digits_pass ds both.1)
 
 digits_feedless : (ds : List ℕ) → all_ascii_digits ds ≡ true → HasNoFeed ds
 digits_feedless [] h = tt
@@ -72,17 +62,17 @@ ends_in_number prefix n fits =
     let len = length-append prefix (decimal n) in
     let last : get_or (prefix ++ decimal n) (length (prefix ++ decimal n) - 1) 0 ≡ get_or (decimal n) (length (prefix ++ decimal n) - 1 - length prefix) 0 =
     get_or-append_right prefix (decimal n) (length prefix) (length (prefix ++ decimal n) - 1) 0 refl (omega arith) in
-    without_return-plain (prefix ++ decimal n) (λ e. digits_unreturned (decimal n) (length (prefix ++ decimal n) - 1 - length prefix) (digits_decimal by_digits n fits) (omega arith) (sym last ∙ e))
+    without_return-plain (prefix ++ decimal n) (λ e. digits_unreturned (decimal n) (length (prefix ++ decimal n) - 1 - length prefix) (digits_decimal by_ascii_digits n fits) (omega arith) (sym last ∙ e))
 
 feedless : (n : ℕ) → n < 2 ^ 64 → HasNoFeed (decimal n)
-feedless n fits = digits_feedless (decimal n) (digits_decimal by_digits n fits)
+feedless n fits = digits_feedless (decimal n) (digits_decimal by_ascii_digits n fits)
 
 -- a number and what stands after it
 field_of : (n : ℕ) (rest : List ℕ) → n < 2 ^ 64 → fields_of (decimal n ++ 32 ∷ rest) ≡ decimal n ∷ fields_of rest
-field_of n rest fits = fields_of-field (decimal n) 32 rest (decimal_nonempty n fits) (digits_pass (decimal n) (digits_decimal by_digits n fits)) refl
+field_of n rest fits = fields_of-field (decimal n) 32 rest (decimal_nonempty n fits) (digits_pass (decimal n) (digits_decimal by_ascii_digits n fits)) refl
 
 last_field_of : (n : ℕ) → n < 2 ^ 64 → fields_of (decimal n) ≡ decimal n ∷ []
-last_field_of n fits = fields_of-last (decimal n) (decimal_nonempty n fits) (digits_pass (decimal n) (digits_decimal by_digits n fits))
+last_field_of n fits = fields_of-last (decimal n) (decimal_nonempty n fits) (digits_pass (decimal n) (digits_decimal by_ascii_digits n fits))
 
 -- ---- the lines
 

@@ -1,22 +1,16 @@
 -- Within the limits, where a walk leads, one of less than 2^57 does: loops are taken out of it, and then
 -- its arcs begin at different vertices.
-use Rattle.std.proofs.Common.{◌≡◌, ◌+◌, ◌*◌, ◌^◌, ◌<◌, ◌≤◌, ℕ, zero, suc, true, false, eqb, List, [], ◌∷◌, length, Option, Some, None, refl, sym, ap, ◌∙◌, subst, arith, ⊎_elim}
+use Rattle.std.proofs.Common.{◌≡◌, ◌+◌, ◌*◌, ◌^◌, ◌<◌, ◌≤◌, ℕ, suc, true, false, eqb, List, [], ◌∷◌, length, refl, sym, ap, ◌∙◌, subst, arith, ⊎_elim}
 use Rattle.std.specs.List.{list_any, IsDistinct, AllByRecursion}
 use Rattle.std.proofs.lemmas.Bool.{cases_Bool, or_cases, or_parts, eqb-true}
 use Rattle.std.proofs.lemmas.Map.Keys.{IsDistinct-cons, IsDistinct-tail, IsDistinct-from_apart}
 use Rattle.std.proofs.lemmas.Map.Steps.{length-le_from_distinct_below}
 use Rattle.std.proofs.Math.Nat.{mul-le-mul_right}
-use Rattle.std.proofs.lemmas.Option.{slice_get_within, get_or_from_slice_get}
-use Rattle.road_model.specs.declared.rows.ArcRow.{ArcRow}
 use Rattle.road_model.specs.Graph.{Graph, arc_at, row_length, length_at, IsVertex, IsGraph, LengthsBelow}
 use Rattle.road_model.specs.Walk.{IsWalk, walk_length}
 use Rattle.road_model.specs.Dist.{DistsBelow}
 use Rattle.road_model.specs.File.{IsWithinLimits}
-use Rattle.road_model.proofs.Walks.{IsArc-at}
-
-abbrev row_tail : Option ArcRow → ℕ
-row_tail None = 0
-row_tail (Some r) = r.tail
+use Rattle.road_model.proofs.Walks.{IsArc-at, length_at-below, row_tail}
 
 -- where the arcs of a walk begin
 abbrev tails : Graph → List ℕ → List ℕ
@@ -95,12 +89,6 @@ few_arcs g p u v sound walk apart =
     (or_cases (eqb q 0) (list_any (eqb q) (tails g p)) any) in
     let count : length (0 ∷ tails g p) ≤ g.vertices + 1 = length-le_from_distinct_below (0 ∷ tails g p) (g.vertices + 1) all below in
     omega (arith, length-tails g p)
-
-pub length_at-below : (g : Graph) (m a : ℕ) (r : ArcRow) → LengthsBelow g m → arc_at g a ≡ Some r → r.length < m
-length_at-below g m zero r short is = absurd (let e : None ≡ Some r = is in cc)
-length_at-below g m (suc k) r short is =
-    let inside : k < length g.arcs = slice_get_within g.arcs k r is in
-    subst (λ (x : ArcRow). x.length < m) (get_or_from_slice_get g.arcs k r r is) (short k r inside)
 
 walk_length-le : (g : Graph) (p : List ℕ) (m u v : ℕ) → LengthsBelow g (m + 1) → IsWalk g u p v → walk_length g p ≤ length p * m
 walk_length-le g [] m u v short walk = omega arith

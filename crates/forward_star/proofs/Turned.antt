@@ -1,6 +1,6 @@
 -- A graph with its arcs turned round: its limits, its walks and its distances.
 use Rattle.std.proofs.Common.{◌≡◌, ◌<◌, ◌≤◌, ℕ, zero, suc, List, [], ◌∷◌, ◌++◌, map, reverse, Option, Some, None, option_map, refl, sym, ap, ◌∙◌, subst, arith}
-use Rattle.std.proofs.lemmas.List.{length-map, reverse-reverse, reverse-append}
+use Rattle.std.proofs.lemmas.List.{length-map, reverse-reverse}
 use Rattle.std.proofs.lemmas.List.Elements.{All-map, All-weaker}
 use Rattle.std.proofs.lemmas.Option.{slice_get-map}
 use Rattle.road_model.specs.declared.rows.ArcRow.{ArcRow}
@@ -9,6 +9,7 @@ use Rattle.road_model.specs.Walk.{IsWalk, walk_length}
 use Rattle.road_model.specs.Dist.{IsDist, NoneShorter}
 use Rattle.road_model.specs.File.{IsWithinLimits}
 use Rattle.road_model.proofs.Walks.{IsWalk-append, walk_length-append}
+use Rattle.road_model.proofs.Basics.{reverse-cons}
 
 pub map-turned : (rows : List ArcRow) → map turned (map turned rows) ≡ rows
 map-turned [] = refl
@@ -50,9 +51,6 @@ same_length (Some r) = refl
 
 pub length_at-reversed : (g : Graph) (a : ℕ) → length_at (reversed g) a ≡ length_at g a
 length_at-reversed g a = ap row_length (arc_at-reversed g a) ∙ same_length (arc_at g a)
-
-reverse-cons : (a : ℕ) (p : List ℕ) → reverse (a ∷ p) ≡ reverse p ++ a ∷ []
-reverse-cons a p = reverse-append (a ∷ []) p
 
 -- the walk read backwards
 pub IsWalk-reversed : (g : Graph) (p : List ℕ) (u v : ℕ) → IsWalk g u p v → IsWalk (reversed g) v (reverse p) u

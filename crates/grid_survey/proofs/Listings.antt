@@ -12,7 +12,8 @@ use Rattle.road_model.specs.declared.answer.Route.{Route}
 use Rattle.road_model.specs.Graph.{Graph, IsVertex}
 use Rattle.road_model.specs.Alternatives.{IsVia}
 use Rattle.road_model.specs.Answers.{IsAscending, IsBefore, IsListing, IsRoute}
-use Rattle.road_laws.proofs.Vias.{HasNumbers-unique, IsVia-unique}
+use Rattle.road_model.proofs.CanonicalWalks.{IsVia-unique}
+use Rattle.road_laws.proofs.Vias.{HasNumbers-unique}
 
 abbrev via_of : Route → ℕ
 via_of r = r.via

@@ -6,6 +6,7 @@ use Rattle.road_model.specs.Graph.{Graph, length_at, row_length, IsVertex}
 use Rattle.road_model.specs.Walk.{IsWalk, walk_length}
 use Rattle.road_model.specs.Dist.{HasWalk, IsDist, DistsBelow, NoneShorter}
 use Rattle.road_model.proofs.Walks.{IsWalk-append, walk_length-append}
+use Rattle.road_model.proofs.Basics.{same_or_other}
 use Rattle.hierarchy_build.specs.Hills.{IsRise, rise_length, Hill, HillWithin, HasHill, NoneLower, Within, IsHillDist, HasTriangles, IsSound, Covers, HasHills, HasHillDists}
 
 pub IsRise-push : (L : ℕ → ℕ → ℕ → Type 0) (p : List (ℕ × ℕ)) (a b c x : ℕ) → IsRise L a p b → L b c x → IsRise L a (p ++ (c, x) ∷ []) c
@@ -66,17 +67,6 @@ merge cap U D t (s ∷ p) q a b m v x link rise fall low =
     let r : HillWithin U D a v (x + (s.1 + rise_length p + rise_length q)) = record { hill = found.hill; within = less } in r)
     rest)
     ((ordered a s.0).cases)
-
-pub same_or_other : (a b : ℕ) → (a ≡ b) ⊎ (a ≢ b)
-same_or_other a b =
-    ⊎_elim
-    (λ (lt : a < b). let r : (a ≡ b) ⊎ (a ≢ b) = inr (λ e. absurd (omega arith)) in r)
-    (λ (ge : b ≤ a).
-    ⊎_elim
-    (λ (gt : b < a). let r : (a ≡ b) ⊎ (a ≢ b) = inr (λ e. absurd (omega arith)) in r)
-    (λ (le : a ≤ b). let same : a ≡ b = omega arith in let r : (a ≡ b) ⊎ (a ≢ b) = inl same in r)
-    (cases_lt b a))
-    (cases_lt a b)
 
 -- each walk below the cap has a hill that isn't longer
 pub hill_of_walk : (cap : ℕ) (g : Graph) (rank : ℕ → ℕ) (U D : ℕ → ℕ → ℕ → Type 0) → HasTriangles cap U D → Covers g rank U D → (p : List ℕ) (u v : ℕ) → IsWalk g u p v → walk_length g p < cap → HillWithin U D (rank u) (rank v) (walk_length g p)

@@ -2,8 +2,8 @@
 use Rattle.std.proofs.Common.{◌≡◌, ◌≢◌, ◌+◌, ◌<◌, ◌≤◌, ℕ, zero, suc, Bool, true, false, cond, eqb, List, slice_index, sym, ap, ◌∙◌, subst, arith, eq-eqb, ⊎_elim}
 use Rattle.std.proofs.lemmas.Bool.{cases_lt, cases_Bool, eqb-true}
 use Rattle.road_model.specs.Graph.{IsVertex}
+use Rattle.road_model.proofs.Basics.{same_or_other}
 use Rattle.hierarchy_build.specs.Runs.{IsRanked}
-use Rattle.hierarchy_build.proofs.Hills.{same_or_other}
 
 -- a function from the numbers below m to themselves that gives each at most once
 record IsInto (f : ℕ → ℕ) (m : ℕ) : Type 0 where

@@ -4,9 +4,10 @@ use Rattle.std.proofs.Math.ListN.{length-set}
 use Rattle.std.proofs.lemmas.Bool.{cases_lt}
 use Rattle.road_model.specs.Graph.{Graph}
 use Rattle.road_model.specs.Dist.{HasWalk}
+use Rattle.road_model.proofs.Basics.{same_or_other}
 use Rattle.hierarchy_build.specs.Runs.{InSpan, IsShape, IsAcross}
 use Rattle.hierarchy_build.specs.Lengths.{no_link, CanPush, AreWalks, Falls, Keeps, IsTight}
-use Rattle.hierarchy_build.proofs.Hills.{HasWalk-joined, same_or_other}
+use Rattle.hierarchy_build.proofs.Hills.{HasWalk-joined}
 use Rattle.hierarchy_build.proofs.Runs.{one_run, place_inside, head_inside, beyond_run, across_rises, one_place}
 
 pub Falls-itself : (from : ℕ) (xs : List ℕ) → Falls from xs xs

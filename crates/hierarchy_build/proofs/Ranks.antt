@@ -6,9 +6,9 @@ use Rattle.std.proofs.lemmas.Bool.{cases_lt}
 use Rattle.std.proofs.lemmas.List.{get_or_default}
 use Rattle.std.proofs.lemmas.List.Elements.{All-get_or}
 use Rattle.road_model.specs.Graph.{IsVertex}
+use Rattle.road_model.proofs.Basics.{same_or_other}
 use Rattle.contraction_order.specs.Order.{IsOrder}
 use Rattle.hierarchy_build.specs.Runs.{IsRanked}
-use Rattle.hierarchy_build.proofs.Hills.{same_or_other}
 
 -- of the first i vertices of an order
 pub record RanksSoFar (order : List ℕ) (i : ℕ) (rank : List ℕ) : Type 0 where

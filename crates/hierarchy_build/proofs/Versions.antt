@@ -6,10 +6,10 @@ use Rattle.road_model.specs.declared.rows.ArcRow.{ArcRow}
 use Rattle.road_model.specs.declared.change.Change.{Change}
 use Rattle.road_model.specs.Graph.{Graph, rows_of, arc_at}
 use Rattle.road_model.specs.Changes.{with_row, changed, after}
+use Rattle.road_model.proofs.Basics.{same_or_other}
 use Rattle.hierarchy_build.specs.declared.shape.Shape.{Shape}
 use Rattle.hierarchy_build.specs.Runs.{IsUp, IsShape, IsRanked, IsPlaced}
 use Rattle.hierarchy_build.specs.Hierarchy.{IsShapeOf, HasSameEnds}
-use Rattle.hierarchy_build.proofs.Hills.{same_or_other}
 
 pub IsShapeOf-same_ends : (g h : Graph) (s : Shape) → HasSameEnds g h → IsShapeOf g s → IsShapeOf h s
 IsShapeOf-same_ends g h s e is =

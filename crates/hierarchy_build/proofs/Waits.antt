@@ -9,9 +9,9 @@ use Rattle.std.proofs.lemmas.List.Elements.{All-more, All-weaker, Contains-get_o
 use Rattle.std.proofs.lemmas.List.Kept.{Contains-dedup_nat, Contains-from_dedup}
 use Rattle.std.proofs.lemmas.List.Sorted.{Contains-permutation, IsPermutation-sym}
 use Rattle.road_model.specs.declared.rows.ArcRow.{ArcRow}
+use Rattle.road_model.proofs.Basics.{same_or_other}
 use Rattle.hierarchy_build.specs.Runs.{InSpan, IsUp, IsShape, IsPlaced}
 use Rattle.hierarchy_build.specs.Waits.{waiting, nothing_waits, IsPut, IsInside, Waits, IsDue, IsRun, IsAmong, IsSent, ShapeSoFar}
-use Rattle.hierarchy_build.proofs.Hills.{same_or_other}
 
 none_in_nil : (x : ℕ) (A : Type 0) → Contains [] x → A
 none_in_nil x A h = absurd (let low : h.0 < 0 = h.1 in omega arith)

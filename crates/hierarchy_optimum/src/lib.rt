@@ -7,6 +7,3 @@
 mod optimum;
 
 pub use optimum::optimum_by;
-
-#[cfg(test)]
-mod tests;

@@ -3,12 +3,13 @@ use Rattle.std.proofs.Common.{◌≡◌, ◌≢◌, ◌+◌, ◌<◌, ◌≤◌,
 use Rattle.std.proofs.Math.ListN.{length-set}
 use Rattle.std.proofs.lemmas.Bool.{cases_lt}
 use Rattle.std.proofs.lemmas.List.{get_or_past}
+use Rattle.road_model.proofs.Basics.{same_or_other}
 use Rattle.hierarchy_build.specs.declared.links.Links.{Links}
 use Rattle.hierarchy_build.specs.Hills.{IsRise, rise_length, HasRise}
 use Rattle.hierarchy_build.specs.Runs.{InSpan, IsUp, IsShape}
 use Rattle.hierarchy_build.specs.Lengths.{no_link}
 use Rattle.hierarchy_build.specs.Links.{links_of, AreLinks}
-use Rattle.hierarchy_build.proofs.Hills.{IsRise-push, rise_length-push, same_or_other}
+use Rattle.hierarchy_build.proofs.Hills.{IsRise-push, rise_length-push}
 use Rattle.hierarchy_build.proofs.Runs.{head_inside}
 use Rattle.hierarchy_build.proofs.Pushes.{lowered, lowered_at, lowered_cases}
 use Rattle.hierarchy_query.specs.Climbs.{IsBlank, CanRelax, CanClimb, IsReached, IsRelaxed, Climbing, IsClimbed}

@@ -3,13 +3,13 @@ use Rattle.std.proofs.Common.{◌≡◌, ◌≢◌, ◌+◌, ◌-◌, ◌<◌, �
 use Rattle.std.proofs.Math.ListN.{length-set}
 use Rattle.std.proofs.lemmas.Bool.{cases_lt}
 use Rattle.std.proofs.lemmas.List.{get_or_append_left, get_or-append_right}
+use Rattle.road_model.proofs.Basics.{same_or_other}
 use Rattle.hierarchy_build.specs.declared.links.Links.{Links}
 use Rattle.hierarchy_build.specs.Parts.{Parts}
 use Rattle.hierarchy_build.specs.Hills.{IsRise, rise_length, HasHill}
 use Rattle.hierarchy_build.specs.Runs.{InSpan, IsUp, IsShape, HasPlace}
 use Rattle.hierarchy_build.specs.Lengths.{no_link}
 use Rattle.hierarchy_build.specs.Links.{links_of}
-use Rattle.hierarchy_build.proofs.Hills.{same_or_other}
 use Rattle.hierarchy_build.proofs.Runs.{head_inside}
 use Rattle.hierarchy_query.specs.Climbs.{CanClimb, IsClimbed, IsLeastHill}
 use Rattle.hierarchy_query.specs.Asks.{up_links, down_links}

@@ -2,12 +2,12 @@
 use Rattle.std.proofs.Common.{◌≡◌, ◌≢◌, ◌+◌, ◌<◌, ◌≤◌, ◌⊎◌, ℕ, min, List, [], ◌∷◌, length, slice_index, set, sym, ap, ◌∙◌, subst, arith, inl, inr, ⊎_elim, get_or-set_same, get_or-set_other}
 use Rattle.std.proofs.Math.ListN.{length-set}
 use Rattle.std.proofs.lemmas.Bool.{cases_lt}
+use Rattle.road_model.proofs.Basics.{same_or_other}
 use Rattle.hierarchy_build.specs.declared.links.Links.{Links}
 use Rattle.hierarchy_build.specs.Hills.{IsRise, rise_length}
 use Rattle.hierarchy_build.specs.Runs.{InSpan, IsUp, IsShape}
 use Rattle.hierarchy_build.specs.Lengths.{no_link}
 use Rattle.hierarchy_build.specs.Links.{links_of}
-use Rattle.hierarchy_build.proofs.Hills.{same_or_other}
 use Rattle.hierarchy_build.proofs.Runs.{head_inside}
 use Rattle.hierarchy_query.specs.Climbs.{IsBlank, CanClimb, IsClimbed, IsPath, Above, CanMeet, IsMeeting, IsLeastHill}
 use Rattle.hierarchy_query.proofs.Climbs.{over_parent}

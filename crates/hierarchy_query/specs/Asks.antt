@@ -1,16 +1,10 @@
 -- What an oracle over a hierarchy keeps.
---   Questions         the graph, and how many questions were answered
 --   up_links n h, down_links n h   the links of a hierarchy of n ranks
 --   AreBlank n f b    no rank has a label in either array
 use Rattle.std.specs.Prelude.{ℕ, List}
-use Rattle.road_model.specs.Graph.{Graph}
 use Rattle.hierarchy_build.specs.Parts.{Parts}
 use Rattle.hierarchy_build.specs.Links.{links_of}
 use Rattle.hierarchy_query.specs.Climbs.{IsBlank}
-
-pub record Questions : Type 0 where
-  pub graph : Graph
-  pub asked : ℕ
 
 abbrev pub up_links : ℕ → Parts → ℕ → ℕ → ℕ → Type 0
 up_links n h = links_of n h.up

@@ -25,7 +25,8 @@ pub struct HierarchyOracle {
 impl Model for HierarchyOracle {
     ghost use Rattle.std.specs.Prelude.{length};
     ghost use Rattle.hierarchy_build.specs.Own.{own_graph};
-    ghost use Rattle.hierarchy_query.specs.Asks.{Questions, AreBlank};
+    ghost use Rattle.road_model.specs.Oracles.{Questions};
+    ghost use Rattle.hierarchy_query.specs.Asks.{AreBlank};
 
     ghost Value = { Questions };
 

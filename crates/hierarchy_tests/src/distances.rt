@@ -3,7 +3,6 @@
 ghost use Rattle.std.specs.Prelude.{All, IfOk};
 ghost use Rattle.road_model.specs.Graph.{IsVertex};
 
-use crate::graphs::star_of;
 use contraction_order::{order_by, order_of};
 use forward_star::Star;
 use hierarchy_build::contract;
@@ -13,7 +12,7 @@ use std::alloc::Global;
 use std::process::Abort;
 use std::sync::Arc;
 use std::test::Fail;
-use worked_graphs::{Arcs, vertex_of};
+use worked_graphs::{Arcs, star_of, vertex_of};
 
 /// Six vertices with one-way, parallel and longer arcs, and a loop; nothing leads to 5.
 pub const MIXED: Arcs = &[

@@ -3,7 +3,6 @@
 ghost use Rattle.std.specs.Prelude.{◌≡◌, IfOk};
 
 use crate::distances::MIXED;
-use crate::graphs::star_of;
 use contraction_order::order_by;
 use forward_star::Star;
 use hierarchy_build::contract;
@@ -11,7 +10,7 @@ use hierarchy_query::{DistanceList, DistancesFrom};
 use std::alloc::Global;
 use std::sync::Arc;
 use std::test::Fail;
-use worked_graphs::vertex_of;
+use worked_graphs::{star_of, vertex_of};
 
 // The distances from vertex 1, where the vertices of these numbers are contracted first.
 fn distances_from_1(alloc: Global, star: &Star, wishes: &[u32]) -> Result<DistancesFrom, Fail>

@@ -3,13 +3,10 @@
 ghost use Rattle.std.specs.Prelude.{◌≤◌};
 ghost use Rattle.road_model.specs.Graph.{IsVertex};
 
-use forward_star::Star;
 use rand_core::utils::NextWord;
 use rand_xoshiro::SplitMix64;
 use road_model::Vertex;
 use std::alloc::{AllocError, Global};
-use std::test::Fail;
-use worked_graphs::graph_of;
 
 /// Tail, head and length of an arc.
 pub type Arc = (u32, u32, u64);
@@ -33,11 +30,6 @@ pub fn drawn(words: &mut SplitMix64, vertices: u32) -> Vertex
     ensures { IsVertex vertices result }
 {
     Vertex(1 + (words.next_word() % u64::from(vertices)) as u32)
-}
-
-/// The graph of these arcs; one outside the limits fails the test.
-pub fn star_of(alloc: Global, vertices: u32, arcs: &[Arc]) -> Result<Star, Fail> {
-    Ok(Star::build(alloc, graph_of(alloc, vertices, arcs)?)?)
 }
 
 /// Random arcs: loops, parallel ones and ties among them, and unreachable parts where they are few.

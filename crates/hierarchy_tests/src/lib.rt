@@ -9,6 +9,8 @@ mod from_one;
 #[cfg(test)]
 mod graphs;
 #[cfg(test)]
+mod optima;
+#[cfg(test)]
 mod orders;
 #[cfg(test)]
 mod plain_searches;

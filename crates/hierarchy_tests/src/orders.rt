@@ -1,9 +1,9 @@
 //! Orders of contraction.
 
-use crate::graphs::star_of;
 use contraction_order::{order_by, order_of};
 use road_model::Vertex;
 use std::test::Fail;
+use worked_graphs::star_of;
 
 #[test]
 fn the_middle_of_a_star_goes_after_its_points(rt: HostRuntime) -> Result<(), Fail> {

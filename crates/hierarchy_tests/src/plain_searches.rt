@@ -1,7 +1,7 @@
 ghost use Rattle.std.specs.Prelude.{◌≡◌, ◌≤◌, IfOk};
 ghost use Rattle.contraction_order.specs.Order.{IsOrder};
 
-use crate::graphs::{Shape, arcs_of, drawn, random_arcs, star_of};
+use crate::graphs::{Shape, arcs_of, drawn, random_arcs};
 use contraction_order::{Order, order_by, order_of};
 use forward_star::Star;
 use hierarchy_build::contract;
@@ -14,6 +14,7 @@ use std::process::Abort;
 use std::sync::Arc;
 use std::test::Fail;
 use tree_search::PlainOracle;
+use worked_graphs::star_of;
 
 const SEED: u64 = 5;
 

@@ -1,11 +1,10 @@
 -- The arcs of a graph as the steps out of their tails.
 use Rattle.std.proofs.Common.{◌≡◌, ◌<◌, ◌≤◌, ◌+◌, ℕ, zero, suc, Bool, true, false, cond, eqb, List, [], ◌∷◌, length, Some, None, slice_get, refl, sym, ap, ◌∙◌, subst, arith, ⊎_elim}
 use Rattle.std.proofs.lemmas.Bool.{cases_Bool, eqb-true, eq-eqb}
-use Rattle.std.proofs.lemmas.Option.{slice_get_within, get_or_from_slice_get}
 use Rattle.road_model.specs.declared.rows.ArcRow.{ArcRow}
 use Rattle.road_model.specs.declared.network.Step.{Step}
 use Rattle.road_model.specs.Graph.{Graph, arc_at, steps_from, step_of, step_at, IsVertex, IsGraph, LengthsBelow}
-use Rattle.road_model.proofs.Walks.{IsArc-at}
+use Rattle.road_model.proofs.Walks.{IsArc-at, length_at-below}
 
 record IsRow (k v i : ℕ) (s : Step) (rows : List ArcRow) : Type 0 where
   place : ℕ
@@ -146,13 +145,7 @@ step_positive g v i s sound h =
     let t = arc_of_step g v i s h in
     omega (arith, (IsArc-at g s.arc t.row sound t.at).positive, t.long)
 
-row_below : (g : Graph) (m a : ℕ) (r : ArcRow) → LengthsBelow g m → arc_at g a ≡ Some r → r.length < m
-row_below g m zero r short is = absurd (let e : None ≡ Some r = is in cc)
-row_below g m (suc k) r short is =
-    let inside : k < length g.arcs = slice_get_within g.arcs k r is in
-    subst (λ (x : ArcRow). x.length < m) (get_or_from_slice_get g.arcs k r r is) (short k r inside)
-
 pub step_below : (g : Graph) (m v i : ℕ) (s : Step) → LengthsBelow g m → step_at g v i ≡ Some s → s.length < m
 step_below g m v i s short h =
     let t = arc_of_step g v i s h in
-    omega (arith, row_below g m s.arc t.row short t.at, t.long)
+    omega (arith, length_at-below g m s.arc t.row short t.at, t.long)

@@ -7,15 +7,8 @@ use Rattle.road_model.specs.Dist.{IsShortest, HaveSameDist}
 use Rattle.road_model.specs.Places.{places, sums, trail_of, vertex_at, between, IsDistAt}
 use Rattle.road_model.specs.ViaWalk.{IsViaWalk}
 use Rattle.road_model.proofs.Walks.{IsWalk-append, IsWalk-inside, walk_length-append}
-use Rattle.road_model.proofs.Parts.{length-places, length-sums, place_after, Parted, parted, dist_in_prefix, dist_in_back}
+use Rattle.road_model.proofs.Parts.{length-places, length-sums, place_after, Parted, parted, dist_in_prefix, dist_in_back, sums_low}
 use Rattle.path_tests.specs.JoinedTrail.{IsJoinedTrail}
-
--- the lengths so far never fall
-sums_low : (g : Graph) (k : ℕ) (p : List ℕ) (j : ℕ) → j ≤ length p → k ≤ get_or (sums g k p) j 0
-sums_low g k [] zero le = omega arith
-sums_low g k [] (suc j) le = absurd (omega arith)
-sums_low g k (a ∷ p) zero le = omega arith
-sums_low g k (a ∷ p) (suc j) le = omega (arith, sums_low g (k + length_at g a) p j (omega arith))
 
 sums_first : (g : Graph) (k : ℕ) (p : List ℕ) → k ≡ get_or (sums g k p) 0 0
 sums_first g k [] = refl

@@ -1,25 +1,18 @@
 -- The shared length, arc by arc.
-use Rattle.std.proofs.Common.{◌≡◌, ℕ, ◌+◌, ◌<◌, ◌≤◌, ◌==◌, Bool, true, false, cond, List, [], ◌∷◌, length, get_or, take, refl, ap, ◌∙◌, sym, subst, arith}
-use Rattle.std.specs.List.{list_any, sum_by}
-use Rattle.std.proofs.lemmas.List.Sums.{sum_by-cons, sum_by_more, sum_by_more_le_part}
+use Rattle.std.proofs.Common.{◌≡◌, ℕ, ◌+◌, ◌<◌, ◌≤◌, ◌==◌, true, false, cond, List, length, get_or, take, ap, ◌∙◌, sym, subst, arith}
+use Rattle.std.specs.List.{list_any}
+use Rattle.std.proofs.lemmas.List.Sums.{sum_by_more, sum_by_more_le_part}
 use Rattle.std.proofs.lemmas.List.{get_or_read}
 use Rattle.std.proofs.lemmas.Bool.{cond-true, cond-false}
 use Rattle.road_model.specs.Graph.{Graph, length_at}
 use Rattle.road_model.specs.Walk.{walk_length}
 use Rattle.road_model.specs.Tests.{shared}
+use Rattle.road_model.proofs.Basics.{cond-le}
+use Rattle.road_model.proofs.Walks.{walk_length-sum_by}
 
 -- what one arc of the optimum adds
 abbrev pub counted : Graph → List ℕ → ℕ → ℕ
 counted g p a = cond (list_any (λ b. b == a) p) (length_at g a) 0
-
-cond-le : (b : Bool) (n : ℕ) → cond b n 0 ≤ n
-cond-le true n = omega arith
-cond-le false n = omega arith
-
-walk_length-sum_by : (g : Graph) (p : List ℕ) → walk_length g p ≡ sum_by (λ a. length_at g a) p
-walk_length-sum_by g [] = refl
-walk_length-sum_by g (a ∷ p) =
-    ap (λ (n : ℕ). length_at g a + n) (walk_length-sum_by g p) ∙ sym (sum_by-cons (λ x. length_at g x) a p)
 
 -- an item of a slice, as an element of the list that it shows
 pub item_of : (o xs : List ℕ) (i a : ℕ) → xs ≡ o → i < length xs → a ≡ get_or xs i a → (i < length o) × (a ≡ get_or o i 0)

@@ -2,7 +2,7 @@
 use Rattle.std.proofs.Common.{◌≡◌, ◌≢◌, ℕ, ◌+◌, ◌<◌, ◌≤◌, ◌⊎◌, ◌==◌, zero, suc, Bool, false, List, [], ◌∷◌, ◌++◌, length, get_or, Option, Some, None, All, AllPairs, Contains, slice_get, IsPermutation, sym, ap, ◌∙◌, subst, arith, inl, inr, ⊎_elim}
 use Rattle.std.specs.List.{IsDistinct}
 use Rattle.std.specs.List.Sorted.{IsNonDecreasingBy, IsStrictlyIncreasing}
-use Rattle.std.proofs.lemmas.Bool.{cases_lt, cases_order, ne_eqb, eqb-false}
+use Rattle.std.proofs.lemmas.Bool.{cases_lt, ne_eqb, eqb-false}
 use Rattle.std.proofs.lemmas.Option.{slice_get-get_or, slice_get_within}
 use Rattle.std.proofs.lemmas.List.Elements.{All-nil, All-push, All-weaker, All-contains, All-from_recursion, Contains-append_left, Contains-push}
 use Rattle.std.proofs.lemmas.List.Quantifiers.{all_pairs_push}
@@ -11,9 +11,10 @@ use Rattle.std.proofs.lemmas.List.Sorted.{All-permutation, Contains-permutation}
 use Rattle.std.proofs.lemmas.Map.Keys.{IsDistinct-from_apart, IsDistinct-head, IsDistinct-tail, IsDistinct-IsPermutation}
 use Rattle.road_model.specs.Graph.{IsGraph, IsVertex}
 use Rattle.road_model.specs.Walk.{walk_length}
+use Rattle.road_model.proofs.Basics.{eqb-flips}
+use Rattle.road_model.proofs.CanonicalWalks.{IsVia-unique}
 use Rattle.tree_search.specs.Ball.{IsWithin}
 use Rattle.canonical_trees.specs.Trees.{Trees, IsMembersFrom}
-use Rattle.canonical_trees.proofs.ThroughVertex.{IsVia-unique}
 use Rattle.plateau_finder.specs.declared.plateau.Plateau.{Plateau}
 use Rattle.plateau_finder.specs.Plateaus.{IsInBoth, IsThrough, IsPlateauOf, IsListedPlateau, HasPlateau, ArePlateaus, IsPlateauAt}
 use Rattle.plateau_finder.specs.Links.{IsPrevious, IsChainFrom, IsChainBack, HasLinkInto, HasStart, HasLeast, IsStart, StartsAt, AreGathered}
@@ -155,16 +156,6 @@ gathered_all ts bound vertices members n cs sound ball same le h =
 
 abbrev same_least : Plateau → Plateau → Bool
 same_least a b = a.least == b.least
-
-eqb-flips : (a b : ℕ) → (a == b) ≡ (b == a)
-eqb-flips a b =
-    ⊎_elim
-    (λ (same : a ≡ b). ap (λ (n : ℕ). n == b) same ∙ ap (λ (n : ℕ). b == n) (sym same))
-    (λ (other : (a < b) ⊎ (b < a)).
-    let one : a ≡ b → ⊥ = λ (e : a ≡ b). ⊎_elim (λ (lt : a < b). omega arith) (λ (gt : b < a). omega arith) other in
-    let two : b ≡ a → ⊥ = λ (e : b ≡ a). one (sym e) in
-    ne_eqb a b one ∙ sym (ne_eqb b a two))
-    (cases_order a b)
 
 HasPlateau-permutation : (ts : Trees) (p : List ℕ) (xs ys : List Plateau) → IsPermutation xs ys → HasPlateau ts p xs → HasPlateau ts p ys
 HasPlateau-permutation ts p xs ys moved h =

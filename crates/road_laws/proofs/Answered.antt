@@ -10,22 +10,17 @@ use Rattle.road_model.specs.Alternatives.{IsVia, IsAlternative, IsName, IsPlatea
 use Rattle.road_model.specs.Answers.{IsRoute, IsListing, IsAnswer}
 use Rattle.road_model.proofs.Dists.{IsDist-same}
 use Rattle.road_model.specs.Queries.{usual}
+use Rattle.road_model.proofs.CanonicalWalks.{IsVia-unique}
 use Rattle.road_laws.specs.Worked.{arc, graph_a, optimum_a, route_a, plan_a}
 use Rattle.road_laws.proofs.Potentials.{dist_by, shortest_by}
 use Rattle.road_laws.proofs.LeastArcs.{last_by, first_by}
-use Rattle.road_laws.proofs.Vias.{IsVia-unique, no_via}
+use Rattle.road_laws.proofs.Vias.{no_via}
 use Rattle.road_laws.proofs.Listings.{answer_is_one_lem}
 use Rattle.road_laws.proofs.Walked.{shortest_12, via_3}
-use Rattle.road_laws.proofs.Tried.{admissible_a, no_via_5}
-
-abbrev from_1 : List ℕ
-from_1 = 0 ∷ 0 ∷ 10 ∷ 11 ∷ 17 ∷ 100 ∷ 20 ∷ []
+use Rattle.road_laws.proofs.Tried.{admissible_a, no_via_5, from_1, from_4}
 
 abbrev from_2 : List ℕ
 from_2 = 0 ∷ 100 ∷ 0 ∷ 1 ∷ 7 ∷ 100 ∷ 10 ∷ []
-
-abbrev from_4 : List ℕ
-from_4 = 0 ∷ 100 ∷ 100 ∷ 100 ∷ 0 ∷ 100 ∷ 5 ∷ []
 
 apart : (a b : ℕ) → a < b → a ≢ b
 apart a b lt e = omega arith

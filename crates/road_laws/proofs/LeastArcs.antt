@@ -1,7 +1,7 @@
 -- Canonical paths on a graph that is written out, by the least arc at each vertex.
 --   LeastOut g t v p    at each vertex of the path p from v to t, no arc of a lower number leads out
 --   LeastInto g s v p   at each vertex of the path to v, whose arcs p has backwards, none of a lower number leads in
-use Rattle.std.proofs.Common.{◌≡◌, ◌≢◌, ℕ, ◌<◌, ◌≤◌, zero, suc, true, List, [], ◌∷◌, ◌++◌, reverse, Option, Some, None, sym, ap, ◌∙◌, subst, arith, inl, inr, ⊎_elim}
+use Rattle.std.proofs.Common.{◌≡◌, ◌≢◌, ℕ, ◌<◌, ◌≤◌, zero, suc, true, List, [], ◌∷◌, ◌++◌, reverse, Some, sym, ap, ◌∙◌, subst, arith, inl, inr, ⊎_elim}
 use Rattle.std.proofs.lemmas.Bool.{cases_lt}
 use Rattle.std.proofs.lemmas.List.{reverse-append}
 use Rattle.road_model.specs.declared.rows.ArcRow.{ArcRow}
@@ -9,12 +9,8 @@ use Rattle.road_model.specs.Graph.{Graph, arc_at, head_at, row_head}
 use Rattle.road_model.specs.Walk.{IsWalk}
 use Rattle.road_model.specs.Dist.{IsShortest}
 use Rattle.road_model.specs.Canonical.{LexLe, IsFirst, IsLast}
-use Rattle.road_model.proofs.Walks.{Cut, cut}
+use Rattle.road_model.proofs.Walks.{Cut, cut, row_tail}
 use Rattle.road_laws.proofs.Potentials.{none_out, none_into, arc_out, arc_into, Ends, last_arc}
-
-abbrev pub row_tail : Option ArcRow → ℕ
-row_tail None = 0
-row_tail (Some r) = r.tail
 
 abbrev pub tail_at : Graph → ℕ → ℕ
 tail_at g a = row_tail (arc_at g a)

@@ -13,8 +13,8 @@ use Rattle.road_model.specs.Tests.{shared, FailsLocal, FailsStretch, NoneFails, 
 use Rattle.road_model.specs.Alternatives.{IsVia, IsName}
 use Rattle.road_model.specs.Verdicts.{IsOther, IsLong, IsOverShared, IsVerdict, IsVerdictOf}
 use Rattle.road_model.proofs.Dists.{IsDist-same}
-use Rattle.road_model.proofs.CanonicalWalks.{IsFirst-unique}
-use Rattle.road_laws.proofs.Vias.{IsVia-unique, no_via, IsName-unique}
+use Rattle.road_model.proofs.CanonicalWalks.{IsFirst-unique, IsVia-unique}
+use Rattle.road_laws.proofs.Vias.{no_via, IsName-unique}
 
 pub record SamePlaces (i j d a b c : ℕ) : Type 0 where
   pub first : i ≡ a

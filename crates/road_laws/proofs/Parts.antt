@@ -1,16 +1,15 @@
 -- Which pairs of places can fail a test.
-use Rattle.std.proofs.Common.{◌≡◌, ℕ, ◌+◌, ◌*◌, ◌<◌, ◌≤◌, ◌⊎◌, List, [], ◌∷◌, ◌++◌, length, Some, refl, sym, ap, ◌∙◌, subst, arith, inl, inr, get_or, ◌≢◌}
+use Rattle.std.proofs.Common.{◌≡◌, ℕ, ◌+◌, ◌*◌, ◌<◌, ◌≤◌, ◌⊎◌, List, [], ◌∷◌, ◌++◌, length, Some, sym, ap, ◌∙◌, subst, arith, inl, inr, ◌≢◌}
 use Rattle.std.proofs.Math.Nat.{mul-le-mul_right, mul_comm}
-use Rattle.std.proofs.lemmas.List.{append-nil}
 use Rattle.std.proofs.lemmas.Bool.{cases_eq}
 use Rattle.road_model.specs.Graph.{Graph}
 use Rattle.road_model.specs.Walk.{IsWalk, walk_length}
 use Rattle.road_model.specs.Dist.{IsDist, IsShortest}
 use Rattle.road_model.specs.Fraction.{Fraction}
-use Rattle.road_model.specs.Places.{places, sums, trail_of, vertex_at, between, IsDistAt}
+use Rattle.road_model.specs.Places.{trail_of, between, IsDistAt}
 use Rattle.road_model.specs.Tests.{FailsLocal, NoneFails}
 use Rattle.road_model.specs.Alternatives.{IsVia}
-use Rattle.road_model.proofs.Parts.{dist_in_prefix, dist_in_back, place_after, sum_after, length-places}
+use Rattle.road_model.proofs.Parts.{dist_in_prefix, dist_in_back, length-places, whole_sum, whole_dist}
 
 via_parts : (g : Graph) (s t v : ℕ) (f b : List ℕ) (i j : ℕ) → IsShortest g s f v → IsShortest g v b t → i ≤ j → j ≤ length (f ++ b) → (j ≤ length f) ⊎ (length f ≤ i) → IsDistAt g (trail_of g s (f ++ b)) i j (between (trail_of g s (f ++ b)) i j)
 via_parts g s t v f b i j h k le inside (inl prefix) = dist_in_prefix g s v f b i j h le prefix
@@ -21,20 +20,6 @@ via_parts_lem g s t v p through i j le inside side =
     subst (λ (l : List ℕ). IsDistAt g (trail_of g s l) i j (between (trail_of g s l) i j)) (sym through.joined)
     (via_parts g s t v through.prefix through.back i j through.first.shortest through.last.shortest le
     (subst (λ (l : List ℕ). j ≤ length l) through.joined inside) side)
-
--- the whole of a walk, as a pair of places
-whole_sum : (g : Graph) (u : ℕ) (p : List ℕ) → between (trail_of g u p) 0 (length p) ≡ walk_length g p
-whole_sum g u p =
-    let last = subst (λ (l : List ℕ). get_or (sums g 0 l) (length p) 0 ≡ 0 + walk_length g p) (append-nil p) (sum_after g p [] 0) in
-    let first = sum_after g [] p 0 in
-    omega arith
-
-whole_dist : (g : Graph) (u v d : ℕ) (p : List ℕ) → IsWalk g u p v → IsDist g u v (Some d) → IsDistAt g (trail_of g u p) 0 (length p) d
-whole_dist g u v d p walk h =
-    let last : vertex_at (trail_of g u p) (length p) ≡ v = subst (λ (l : List ℕ). get_or (places g u l) (length p) 0 ≡ v) (append-nil p) (place_after g p [] u v walk) in
-    let first : vertex_at (trail_of g u p) 0 ≡ u = place_after g [] p u u refl in
-    subst (λ (x : ℕ). IsDist g x (vertex_at (trail_of g u p) (length p)) (Some d)) (sym first)
-    (subst (λ (x : ℕ). IsDist g u x (Some d)) (sym last) h)
 
 -- where the whole is tested and doesn't fail, it is as long as the distance
 whole_is_dist : (g : Graph) (alpha : Fraction) (u v l d : ℕ) (p : List ℕ) → alpha.num ≡ alpha.den → 0 < length p → IsWalk g u p v → IsDist g u v (Some d) → walk_length g p ≤ l → NoneFails (FailsLocal g alpha l (trail_of g u p)) → (walk_length g p ≡ d) ⊎ (walk_length g p ≢ d) → walk_length g p ≡ d

@@ -18,13 +18,13 @@ use Rattle.road_laws.proofs.Walked.{dist_1_6}
 abbrev trail_a : Trail
 trail_a = trail_of graph_a 1 (3 ∷ 4 ∷ 5 ∷ [])
 
-abbrev from_1 : List ℕ
+abbrev pub from_1 : List ℕ
 from_1 = 0 ∷ 0 ∷ 10 ∷ 11 ∷ 17 ∷ 100 ∷ 20 ∷ []
 
 abbrev from_3 : List ℕ
 from_3 = 0 ∷ 100 ∷ 100 ∷ 0 ∷ 6 ∷ 100 ∷ 11 ∷ []
 
-abbrev from_4 : List ℕ
+abbrev pub from_4 : List ℕ
 from_4 = 0 ∷ 100 ∷ 100 ∷ 100 ∷ 0 ∷ 100 ∷ 5 ∷ []
 
 dist_1_3 : IsDist graph_a 1 3 (Some 11)

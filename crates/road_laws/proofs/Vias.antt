@@ -10,13 +10,6 @@ use Rattle.road_model.specs.Tests.{shared}
 use Rattle.road_model.specs.Alternatives.{IsVia, HasNoVia, IsName, IsPlateau}
 use Rattle.road_model.specs.Answers.{HasNumbers}
 use Rattle.road_model.proofs.Walks.{walk_length-positive}
-use Rattle.road_model.proofs.CanonicalWalks.{IsFirst-unique, IsLast-unique}
-
-pub IsVia-unique : (g : Graph) (s t v : ℕ) (p q : List ℕ) → IsVia g s t v p → IsVia g s t v q → p ≡ q
-IsVia-unique g s t v p q h k =
-    let prefix : h.prefix ≡ k.prefix = IsFirst-unique g s v h.prefix k.prefix h.first k.first in
-    let back : h.back ≡ k.back = IsLast-unique g v t h.back k.back h.last k.last in
-    h.joined ∙ (ap (λ (x : List ℕ). x ++ h.back) prefix ∙ (ap (λ (x : List ℕ). k.prefix ++ x) back ∙ sym k.joined))
 
 pub no_via : {P : Type 0} (g : Graph) (s t v : ℕ) (p : List ℕ) → HasNoVia g s t v → IsVia g s t v p → P
 no_via g s t v p none h = absurd (none h.prefix h.back h.first.shortest.walk h.last.shortest.walk)

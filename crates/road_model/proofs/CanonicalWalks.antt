@@ -1,8 +1,9 @@
 -- Dictionary order is an order, and so the canonical walk is one.
-use Rattle.std.proofs.Common.{◌≡◌, ℕ, List, [], ◌∷◌, reverse, refl, sym, ap, ◌∙◌, arith, inl, inr}
+use Rattle.std.proofs.Common.{◌≡◌, ℕ, List, [], ◌∷◌, reverse, refl, sym, ap, ◌∙◌, arith, inl, inr, ◌++◌}
 use Rattle.std.proofs.lemmas.List.{reverse-reverse}
 use Rattle.road_model.specs.Graph.{Graph}
 use Rattle.road_model.specs.Canonical.{LexLe, IsFirst, IsLast}
+use Rattle.road_model.specs.Alternatives.{IsVia}
 
 pub LexLe-refl : (p : List ℕ) → LexLe p p
 LexLe-refl [] = tt
@@ -36,3 +37,9 @@ pub IsFirst-unique : (g : Graph) (s v : ℕ) (p q : List ℕ) → IsFirst g s p 
 IsFirst-unique g s v p q h k =
     let turned : reverse p ≡ reverse q = LexLe-antisym (reverse p) (reverse q) (h.least q k.shortest) (k.least p h.shortest) in
     sym (reverse-reverse p) ∙ ap (λ (l : List ℕ). reverse l) turned ∙ reverse-reverse q
+
+pub IsVia-unique : (g : Graph) (s t v : ℕ) (p q : List ℕ) → IsVia g s t v p → IsVia g s t v q → p ≡ q
+IsVia-unique g s t v p q h k =
+    let prefix : h.prefix ≡ k.prefix = IsFirst-unique g s v h.prefix k.prefix h.first k.first in
+    let back : h.back ≡ k.back = IsLast-unique g v t h.back k.back h.last k.last in
+    h.joined ∙ (ap (λ (x : List ℕ). x ++ h.back) prefix ∙ (ap (λ (x : List ℕ). k.prefix ++ x) back ∙ sym k.joined))

@@ -1,3 +1,4 @@
+pub mod Basics
 pub mod Walks
 pub mod Dists
 pub mod CanonicalWalks

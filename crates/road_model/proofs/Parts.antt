@@ -1,6 +1,6 @@
 -- The subpath between two places of a walk.
-use Rattle.std.proofs.Common.{◌≡◌, ℕ, ◌+◌, ◌-◌, ◌≤◌, List, [], ◌∷◌, ◌++◌, length, get_or, take, drop, Some, refl, sym, ap, ◌∙◌, subst, arith, append_assoc, length-append}
-use Rattle.std.proofs.lemmas.List.{take-append-drop, length-take-le, length-drop}
+use Rattle.std.proofs.Common.{◌≡◌, ℕ, ◌+◌, ◌-◌, ◌≤◌, List, [], ◌∷◌, ◌++◌, length, get_or, take, drop, Some, refl, sym, ap, ◌∙◌, subst, arith, append_assoc, length-append, zero, suc}
+use Rattle.std.proofs.lemmas.List.{take-append-drop, length-take-le, length-drop, append-nil}
 use Rattle.road_model.specs.Graph.{Graph, head_at, length_at, row_head}
 use Rattle.road_model.specs.Walk.{IsWalk, walk_length}
 use Rattle.road_model.specs.Dist.{IsDist, IsShortest}
@@ -167,3 +167,24 @@ dist_in_back g u v w f q i j walk h beyond le inside =
     let far : length f + (j - length f) ≡ j = omega arith in
     subst (λ (n : ℕ). IsDistAt g (trail_of g u (f ++ q)) n j (between (trail_of g u (f ++ q)) n j)) near
     (subst (λ (n : ℕ). IsDistAt g (trail_of g u (f ++ q)) (length f + (i - length f)) n (between (trail_of g u (f ++ q)) (length f + (i - length f)) n)) far shifted)
+
+-- the lengths so far never fall
+pub sums_low : (g : Graph) (k : ℕ) (p : List ℕ) (j : ℕ) → j ≤ length p → k ≤ get_or (sums g k p) j 0
+sums_low g k [] zero le = omega arith
+sums_low g k [] (suc j) le = absurd (omega arith)
+sums_low g k (a ∷ p) zero le = omega arith
+sums_low g k (a ∷ p) (suc j) le = omega (arith, sums_low g (k + length_at g a) p j (omega arith))
+
+-- the whole of a walk, as a pair of places
+pub whole_sum : (g : Graph) (u : ℕ) (p : List ℕ) → between (trail_of g u p) 0 (length p) ≡ walk_length g p
+whole_sum g u p =
+    let last = subst (λ (l : List ℕ). get_or (sums g 0 l) (length p) 0 ≡ 0 + walk_length g p) (append-nil p) (sum_after g p [] 0) in
+    let first = sum_after g [] p 0 in
+    omega arith
+
+pub whole_dist : (g : Graph) (u v d : ℕ) (p : List ℕ) → IsWalk g u p v → IsDist g u v (Some d) → IsDistAt g (trail_of g u p) 0 (length p) d
+whole_dist g u v d p walk h =
+    let last : vertex_at (trail_of g u p) (length p) ≡ v = subst (λ (l : List ℕ). get_or (places g u l) (length p) 0 ≡ v) (append-nil p) (place_after g p [] u v walk) in
+    let first : vertex_at (trail_of g u p) 0 ≡ u = place_after g [] p u u refl in
+    subst (λ (x : ℕ). IsDist g x (vertex_at (trail_of g u p) (length p)) (Some d)) (sym first)
+    (subst (λ (x : ℕ). IsDist g u x (Some d)) (sym last) h)

@@ -1,9 +1,12 @@
 -- Walks joined, cut and measured.
-use Rattle.std.proofs.Common.{◌≡◌, ℕ, ◌+◌, ◌<◌, ◌≤◌, zero, suc, List, [], ◌∷◌, ◌++◌, length, Some, None, refl, sym, ap, ◌∙◌, subst, arith}
+use Rattle.std.proofs.Common.{◌≡◌, ℕ, ◌+◌, ◌<◌, ◌≤◌, zero, suc, List, [], ◌∷◌, ◌++◌, length, Some, None, refl, sym, ap, ◌∙◌, subst, arith, Option}
 use Rattle.std.proofs.lemmas.Option.{slice_get_within, get_or_from_slice_get}
+use Rattle.std.proofs.lemmas.List.Sums.{sum_by-cons}
+use Rattle.std.specs.List.{sum_by}
 use Rattle.road_model.specs.declared.rows.ArcRow.{ArcRow}
-use Rattle.road_model.specs.Graph.{Graph, arc_at, length_at, row_length, IsVertex, IsArc, IsGraph}
+use Rattle.road_model.specs.Graph.{Graph, arc_at, length_at, row_length, IsVertex, IsArc, IsGraph, LengthsBelow}
 use Rattle.road_model.specs.Walk.{IsWalk, walk_length}
+use Rattle.road_model.specs.File.{IsWithinLimits}
 
 pub IsWalk-append : (g : Graph) (p q : List ℕ) (u v w : ℕ) → IsWalk g u p v → IsWalk g v q w → IsWalk g u (p ++ q) w
 IsWalk-append g [] q u v w h k = subst (λ (x : ℕ). IsWalk g x q w) (sym h) k
@@ -63,3 +66,21 @@ walk_length-positive g a p u v sound h =
     let one : 1 ≤ h.0.length = (IsArc-at g a h.0 sound h.1).positive in
     let is : length_at g a ≡ h.0.length = ap row_length h.1 in
     omega arith
+
+abbrev pub row_tail : Option ArcRow → ℕ
+row_tail None = 0
+row_tail (Some r) = r.tail
+
+pub length_at-below : (g : Graph) (m a : ℕ) (r : ArcRow) → LengthsBelow g m → arc_at g a ≡ Some r → r.length < m
+length_at-below g m zero r short is = absurd (let e : None ≡ Some r = is in cc)
+length_at-below g m (suc k) r short is =
+    let inside : k < length g.arcs = slice_get_within g.arcs k r is in
+    subst (λ (x : ArcRow). x.length < m) (get_or_from_slice_get g.arcs k r r is) (short k r inside)
+
+pub sound_of : (g h : Graph) → h ≡ g → IsWithinLimits h → IsGraph g
+sound_of g h same limits = subst (λ (x : Graph). IsGraph x) same limits.is_graph
+
+pub walk_length-sum_by : (g : Graph) (p : List ℕ) → walk_length g p ≡ sum_by (λ a. length_at g a) p
+walk_length-sum_by g [] = refl
+walk_length-sum_by g (a ∷ p) =
+    ap (λ (n : ℕ). length_at g a + n) (walk_length-sum_by g p) ∙ sym (sum_by-cons (λ x. length_at g x) a p)

@@ -14,3 +14,4 @@ pub mod Answers
 pub mod Verdicts
 pub mod Versions
 pub mod Messages
+pub mod Oracles

@@ -7,7 +7,7 @@ use Rattle.std.proofs.lemmas.Bool.{lt-ltb, le-leb, lt-leb}
 use Rattle.std.proofs.lemmas.Bool.Decides.{nat_tests}
 use Rattle.std.proofs.lemmas.List.{take_all, drop_all, length-take-le, at_drop_more}
 use Rattle.std.proofs.lemmas.Int.Digits.{digits_more, digits_value_more}
-use Rattle.std.proofs.lemmas.Str.Parse.{IsNumeralModel, numerals_by_value, tells_digits, digits_value_short}
+use Rattle.std.proofs.lemmas.Str.Parse.{IsNumeralModel, numerals_by_value, tells_digits, digits_value_short, tells_all_ascii_digits}
 use Rattle.road_text.specs.Numbers.{number_of, canonical_of, has_leading_zero}
 
 by_digits : IsNumeralModel (AllDigits 10) (digits_value 10)
@@ -71,3 +71,7 @@ canonical_of-zero bs many e = rw (e, lt-ltb 1 (length bs) many) refl
 pub canonical_of-plain : (bs : List ℕ) → has_leading_zero bs ≡ false → canonical_of bs ≡ number_of bs
 unfolding canonical_of
 canonical_of-plain bs e = rw e refl
+
+-- decimal digits, told by the test of a text
+pub by_ascii_digits : IsNumeralModel (λ ds. all_ascii_digits ds ≡ true) (digits_value 10)
+by_ascii_digits = numerals_by_value (λ ds. all_ascii_digits ds ≡ true) tells_all_ascii_digits

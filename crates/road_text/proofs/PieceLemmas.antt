@@ -6,7 +6,7 @@ use Rattle.std.proofs.lemmas.List.Concat.{flat_map-append}
 use Rattle.road_io.specs.Told.{Told}
 use Rattle.road_io.specs.declared.writing.Put.{Put}
 use Rattle.road_io.specs.declared.writing.Put.TheVariants.{Done, Failed}
-use Rattle.road_io.proofs.CountLemmas.{HasRisen_behind}
+use Rattle.road_io.proofs.CountLemmas.{HasRisen-later}
 use Rattle.road_io.proofs.SinkLemmas.{Writes_both, Writes_failed}
 use Rattle.road_text.specs.Pieces.{put_of, Appends}
 
@@ -16,7 +16,7 @@ pub Appends_both : {S : Type 0} {written : S → Option Told} {faults : S → �
 Appends_both {written = written} {faults = faults} {first = first} {second = second} {a = a} {b = b} {c = c} {answer = answer} h k = record {
   writes = Writes_both first second (written a) (written b) (written c) answer h.writes k.writes;
   count = (let early = h.count in let late = k.count in omega arith);
-  cause = λ failed. HasRisen_behind (faults a) (faults b) (faults c) h.count k.count (k.cause failed);
+  cause = λ failed. HasRisen-later (faults a) (faults b) (faults c) h.count k.count (k.cause failed);
 }
 
 -- where the first of two pieces failed, the two in one failed

@@ -1,6 +1,7 @@
 //! Texts piece by piece: bytes, and numbers by their digits.
 //!
-//! What begins with `put` writes to a sink, and may fail; what begins with `push` puts into a [`Pending`], which has room.
+//! What begins with `put` writes to a sink, and may fail; what begins with `push` puts into a [`Pending`], which has
+//! room.
 
 ghost use Rattle.std.specs.Prelude.{◌≡◌, ◌+◌, ◌≤◌, ◌++◌, decimal, length};
 ghost use Rattle.road_io.specs.Buffers.{pending};

@@ -5,15 +5,12 @@ use Rattle.std.specs.Str.{all_ascii_digits}
 use Rattle.std.specs.Str.Parse.{digits_value}
 use Rattle.std.proofs.lemmas.Bool.{and_parts, and_left, and_right, and_cases, eqb-false, ltb-true, ltb-false, leb-true, ne_eqb, le-ltb, cases_lt}
 use Rattle.std.proofs.lemmas.Fmt.{decimal_nonempty, decimal-digits_value, digits_decimal, digits_value-decimal, first_decimal, length-decimal-le}
-use Rattle.std.proofs.lemmas.Str.Parse.{IsNumeralModel, numerals_by_value, tells_all_ascii_digits, digits_value_short}
+use Rattle.std.proofs.lemmas.Str.Parse.{digits_value_short}
 use Rattle.road_text.specs.Numbers.{is_number, number_of, has_leading_zero, canonical_of}
-use Rattle.road_text.proofs.NumberLemmas.{canonical_of-plain, number_of-digits}
-
-by_digits : IsNumeralModel (λ ds. all_ascii_digits ds ≡ true) (digits_value 10)
-by_digits = numerals_by_value (λ ds. all_ascii_digits ds ≡ true) tells_all_ascii_digits
+use Rattle.road_text.proofs.NumberLemmas.{canonical_of-plain, number_of-digits, by_ascii_digits}
 
 pub all_ascii_digits-decimal : (n : ℕ) → n < 2 ^ 64 → all_ascii_digits (decimal n) ≡ true
-all_ascii_digits-decimal n fits = digits_decimal by_digits n fits
+all_ascii_digits-decimal n fits = digits_decimal by_ascii_digits n fits
 
 -- ---- a written number is read
 
@@ -31,7 +28,7 @@ canonical_of-decimal n small =
     let fits : n < 2 ^ 64 = omega arith in
     canonical_of-plain (decimal n) (has_leading_zero-decimal n fits)
     ∙ number_of-digits (decimal n) (decimal_nonempty n fits) (length-decimal-le 19 n (lit< tt) small fits) (all_ascii_digits-decimal n fits)
-    ∙ ap (λ (m : ℕ). Some m) (digits_value-decimal by_digits n fits)
+    ∙ ap (λ (m : ℕ). Some m) (digits_value-decimal by_ascii_digits n fits)
 
 -- ---- a number that was read is written as it was
 
@@ -59,8 +56,8 @@ IsSpelling-from_read field n e =
     let lengths = and_parts (nat_lt 0 (length field)) (nat_le (length field) 19) parts.0 in
     let some : 0 < length field = ltb-true 0 (length field) lengths.0 in
     let few : length field ≤ 19 = leb-true (length field) 19 lengths.1 in
-    let small : digits_value 10 field < 10 ^ 19 = digits_value_short by_digits field 19 parts.1 few in
+    let small : digits_value 10 field < 10 ^ 19 = digits_value_short by_ascii_digits field 19 parts.1 few in
     record {
-      field_is = sym (decimal-digits_value by_digits field parts.1 some (plain field read.0 some) (omega arith)) ∙ ap decimal read.2;
+      field_is = sym (decimal-digits_value by_ascii_digits field parts.1 some (plain field read.0 some) (omega arith)) ∙ ap decimal read.2;
       small = omega (arith, read.2);
     }

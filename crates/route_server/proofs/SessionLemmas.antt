@@ -1,11 +1,10 @@
 -- The steps of a session.
-use Rattle.std.proofs.Common.{◌≡◌, ◌≢◌, ℕ, ◌+◌, ◌-◌, ◌≤◌, min, Bool, true, false, List, [], ◌∷◌, ◌++◌, length, Option, Some, None, Result, Ok, Err, refl, sym, ap, ◌∙◌, subst, arith, inl, inr}
+use Rattle.std.proofs.Common.{◌≡◌, ◌≢◌, ℕ, ◌+◌, ◌-◌, Bool, true, false, List, [], ◌∷◌, ◌++◌, length, Option, Some, None, Result, Ok, Err, refl, sym, ap, ◌∙◌, subst, arith, inl, inr}
 use Rattle.std.specs.Prelude.{not, ◌==◌}
 use Rattle.std.proofs.lemmas.List.{take_all}
 use Rattle.std.proofs.lemmas.List.Elements.{All-nil}
 use Rattle.std.proofs.lemmas.Bool.Decides.{nat_tests}
 use Rattle.road_model.specs.declared.answer.Optimum.{Optimum}
-use Rattle.road_model.specs.declared.answer.PageSpan.{PageSpan}
 use Rattle.road_model.specs.declared.answer.Plan.{Plan}
 use Rattle.road_model.specs.declared.answer.Plan.TheVariants.{NoPath, Found}
 use Rattle.road_model.specs.declared.answer.Query.{Query}
@@ -19,7 +18,6 @@ use Rattle.road_model.specs.declared.request.Reply.{Reply}
 use Rattle.road_model.specs.declared.request.Reply.TheVariants as reply
 use Rattle.road_model.specs.declared.request.Request.{Request}
 use Rattle.road_model.specs.declared.request.Request.TheVariants as the
-use Rattle.road_model.specs.Answers.{IsPage}
 use Rattle.road_model.specs.Graph.{Graph, arc_count}
 use Rattle.road_model.specs.Changes.{after_all, change_fault, fault_of}
 use Rattle.road_model.specs.Versions.{last_version, version_fault, IsRefusedAs}
@@ -33,17 +31,12 @@ use Rattle.desk_core.specs.Desks.{DeskState, empty_desk, IsDeskStep}
 use Rattle.desk_core.specs.KeptAnswers.{with_desk, IsKeptAnswer}
 use Rattle.desk_core.proofs.KeptLemmas.{desk_step, step_keeps, staged_keeps, published_keeps}
 use Rattle.desk_core.proofs.Passed.{passed_ok}
+use Rattle.desk_core.proofs.ShownLemmas.{span_inside}
 use Rattle.line_front.specs.Replies.{HasItems}
 use Rattle.route_server.specs.Sessions.{SessionState, state_of, versions_of, IsChange, IsChangeMade, IsSoundSession}
 use Rattle.route_server.proofs.ChangeLemmas.{SameSize, after_all-size, change_fault-push, change_fault-size}
 
 -- ---- what a page shows
-
-span_inside : (total size offset : ℕ) (span : PageSpan) → IsPage total size offset span → span.first + span.count ≤ total
-span_inside total size offset span p =
-    let first : span.first ≡ min offset total = p.is_first in
-    let count : span.count ≡ min size (total - span.first) = p.is_count in
-    omega (arith, first, count)
 
 page_items : (number : ℕ) (q : Query) (size offset : ℕ) (plan : Plan) (r : Reply) → IsPageReply number q size offset plan r → HasItems r (Some plan)
 page_items number q size offset NoPath r h = subst (λ (x : Reply). HasItems x (Some NoPath)) (sym h) tt

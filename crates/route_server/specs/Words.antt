@@ -5,7 +5,7 @@
 --   up_to most word    the number of a word, where it is 1 to most
 --   grid_of seed width height   the grid of three words
 --   make_of, survey_of   the command of the words after `make`, or after `survey`
---   behind_word word words   the command of a word and the words after it
+--   beyond_word word words   the command of a word and the words after it
 --   command_of words   the command, where the words are those of one: `check GRAPH`, `print GRAPH`,
 --                      `make SEED WIDTH HEIGHT`, `survey SEED WIDTH HEIGHT QUERIES` or `answer GRAPH`
 --   name_of words      the second word, which is the name of the graph file where the command has one

@@ -1,15 +1,10 @@
 -- An oracle that answers by a search.
---   Questions      its graph, and how many questions it answered
 --   IsReady g m    all lengths and distances are below 2^57, and its memory can be reset
-use Rattle.std.specs.Prelude.{◌≡◌, ◌+◌, ◌^◌, ℕ, length}
+use Rattle.std.specs.Prelude.{◌≡◌, ◌+◌, ◌^◌, length}
 use Rattle.road_model.specs.Graph.{Graph, LengthsBelow}
 use Rattle.road_model.specs.Dist.{DistsBelow}
 use Rattle.label_setting.specs.declared.memory.SearchMemory.{SearchMemory}
 use Rattle.label_setting.specs.Search.{IsTracked}
-
-pub record Questions : Type 0 where
-  pub graph : Graph
-  pub asked : ℕ
 
 pub record IsReady (g : Graph) (m : SearchMemory) : Type 0 where
   pub short : LengthsBelow g (2 ^ 57)

@@ -20,7 +20,8 @@ pub struct PlainOracle<'a, N: Network> {
 }
 
 impl<'a, N: Network> Model for PlainOracle<'a, N> {
-    ghost use Rattle.tree_search.specs.Oracle.{Questions, IsReady};
+    ghost use Rattle.road_model.specs.Oracles.{Questions};
+    ghost use Rattle.tree_search.specs.Oracle.{IsReady};
 
     ghost Value = { Questions };
 

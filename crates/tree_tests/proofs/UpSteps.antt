@@ -1,15 +1,15 @@
 -- One step towards the root of a tree, whichever tree it is.
-use Rattle.std.proofs.Common.{◌≡◌, ℕ, ◌+◌, ◌≤◌, ◌==◌, Bool, true, false, cond, List, [], ◌∷◌, ◌++◌, Option, Some, None, refl, sym, ap, ◌∙◌, subst, arith, ⊎_elim}
-use Rattle.std.specs.List.{list_any, sum_by}
+use Rattle.std.proofs.Common.{◌≡◌, ℕ, ◌+◌, ◌≤◌, ◌==◌, List, [], ◌∷◌, ◌++◌, Option, Some, None, sym, ap, ◌∙◌, subst, arith, ⊎_elim}
+use Rattle.std.specs.List.{list_any}
 use Rattle.std.proofs.lemmas.List.Sums.{sum_by-cons, sum_by_push, sum_by-le-sum_by}
 use Rattle.road_model.specs.declared.network.Step.{Step}
 use Rattle.road_model.specs.Graph.{Graph, IsGraph, length_at, row_length}
-use Rattle.road_model.specs.File.{IsWithinLimits}
 use Rattle.road_model.specs.Walk.{walk_length}
 use Rattle.road_model.specs.Canonical.{IsFirst, IsLast}
-use Rattle.road_model.proofs.Walks.{IsArc-at, walk_length-append}
+use Rattle.road_model.proofs.Walks.{IsArc-at, walk_length-append, walk_length-sum_by}
 use Rattle.road_model.proofs.Dists.{IsDist-same, dist_of_shortest}
 use Rattle.road_model.proofs.CanonicalWalks.{IsFirst-unique, IsLast-unique}
+use Rattle.road_model.proofs.Basics.{cond-le}
 use Rattle.canonical_trees.specs.Trees.{Trees, IsInside, IsOutside, IsLastStep, IsFirstStep, IsFromStep, IsToStep}
 use Rattle.canonical_trees.proofs.Canonical.{IsLast-nil}
 use Rattle.canonical_trees.proofs.Balls.{apart}
@@ -25,16 +25,6 @@ TreePath-unique ts Target v p q h k = IsLast-unique ts.graph v ts.target p q h k
 pub TreeDist-same : (ts : Trees) (side : Side) (v a b : ℕ) → TreeDist ts side v a → TreeDist ts side v b → a ≡ b
 TreeDist-same ts Source v a b h k = IsDist-same ts.graph ts.source v a b h k
 TreeDist-same ts Target v a b h k = IsDist-same ts.graph v ts.target a b h k
-
--- a path carries no more than it is long
-cond-le : (b : Bool) (n : ℕ) → cond b n 0 ≤ n
-cond-le true n = omega arith
-cond-le false n = omega arith
-
-walk_length-sum_by : (g : Graph) (p : List ℕ) → walk_length g p ≡ sum_by (λ a. length_at g a) p
-walk_length-sum_by g [] = refl
-walk_length-sum_by g (a ∷ p) =
-    ap (λ (n : ℕ). length_at g a + n) (walk_length-sum_by g p) ∙ sym (sum_by-cons (λ x. length_at g x) a p)
 
 pub weight-le : (g : Graph) (o : List ℕ) (a : ℕ) → weight_on g o a ≤ length_at g a
 weight-le g o a = cond-le (list_any (λ b. b == a) o) (length_at g a)
@@ -107,9 +97,6 @@ up_to ts v None sound inside h = λ p path.
     (λ (out : IsOutside ts.graph ts.radius v ts.target). absurd (apart ts.graph ts.radius v ts.target inside out))
     h
 up_to ts v (Some x) sound inside h = up_first ts v x sound h
-
-pub sound_of : (g h : Graph) → h ≡ g → IsWithinLimits h → IsGraph g
-sound_of g h same limits = subst (λ (x : Graph). IsGraph x) same limits.is_graph
 
 pub up_at : (ts : Trees) (side is : Side) (v : ℕ) (o : Option Step) → side ≡ is → IsUp ts is v o → IsUp ts side v o
 up_at ts side is v o same h = subst (λ (x : Side). IsUp ts x v o) (sym same) h

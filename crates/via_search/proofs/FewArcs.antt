@@ -11,13 +11,7 @@ use Rattle.road_model.specs.Dist.{IsDist, IsShortest}
 use Rattle.road_model.specs.Places.{places, sums, trail_of, vertex_at, between, IsDistAt}
 use Rattle.road_model.proofs.Walks.{IsArc-at}
 use Rattle.road_model.proofs.Dists.{IsDist-same, IsDist-itself}
-use Rattle.road_model.proofs.Parts.{length-places, dist_in_prefix}
-
-sums_low : (g : Graph) (k : ℕ) (p : List ℕ) (j : ℕ) → j ≤ length p → k ≤ get_or (sums g k p) j 0
-sums_low g k [] zero le = omega arith
-sums_low g k [] (suc j) le = absurd (omega arith)
-sums_low g k (a ∷ p) zero le = omega arith
-sums_low g k (a ∷ p) (suc j) le = omega (arith, sums_low g (k + length_at g a) p j (omega arith))
+use Rattle.road_model.proofs.Parts.{length-places, dist_in_prefix, sums_low}
 
 pub sums_strict : (g : Graph) (k : ℕ) (p : List ℕ) (u v i j : ℕ) → IsGraph g → IsWalk g u p v → i < j → j ≤ length p → get_or (sums g k p) i 0 < get_or (sums g k p) j 0
 sums_strict g k [] u v i j sound walk lt le = absurd (let none : j ≤ 0 = le in omega arith)

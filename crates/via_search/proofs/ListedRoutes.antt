@@ -16,9 +16,11 @@ use Rattle.road_model.specs.Fraction.{Stretches}
 use Rattle.road_model.specs.Alternatives.{IsAlternative}
 use Rattle.road_model.specs.Answers.{IsRoute, IsBefore, IsAscending, HasRoute, IsListing}
 use Rattle.road_model.proofs.Dists.{dist_of_shortest}
+use Rattle.road_model.proofs.Basics.{eqb-flips}
+use Rattle.road_model.proofs.CanonicalWalks.{IsVia-unique}
 use Rattle.route_ranking.specs.Order.{IsInOrder}
 use Rattle.canonical_trees.specs.Trees.{Trees}
-use Rattle.canonical_trees.proofs.ThroughVertex.{IsVia-unique, via_walk, via_parts}
+use Rattle.canonical_trees.proofs.ThroughVertex.{via_walk, via_parts}
 use Rattle.plateau_finder.specs.declared.plateau.Plateau.{Plateau}
 use Rattle.plateau_finder.specs.Plateaus.{IsInBoth, IsPlateauOf, HasPlateau, ArePlateaus}
 use Rattle.via_search.specs.Candidates.{IsPosed, IsBoundOf, pair_of}
@@ -116,16 +118,6 @@ listed_some g q o ts bound cs k c rs now found r all here h route some same =
 
 abbrev same_name : Route → Route → Bool
 same_name a b = a.via == b.via
-
-eqb-flips : (a b : ℕ) → (a == b) ≡ (b == a)
-eqb-flips a b =
-    ⊎_elim
-    (λ (same : a ≡ b). ap (λ (n : ℕ). n == b) same ∙ ap (λ (n : ℕ). b == n) (sym same))
-    (λ (other : (a < b) ⊎ (b < a)).
-    let one : a ≡ b → ⊥ = λ (e : a ≡ b). ⊎_elim (λ (lt : a < b). omega arith) (λ (gt : b < a). omega arith) other in
-    let two : b ≡ a → ⊥ = λ (e : b ≡ a). one (sym e) in
-    ne_eqb a b one ∙ sym (ne_eqb b a two))
-    (cases_order a b)
 
 before_of : (r x : Route) → (IsBefore x r → ⊥) → r.via ≢ x.via → IsBefore r x
 before_of r x not other =

@@ -13,8 +13,9 @@ use Rattle.via_search.specs.Candidates.{IsCandidate, FindsCandidate}
 use Rattle.via_search.specs.Settings.{Givens, trees_of}
 use Rattle.plateau_finder.specs.Plateaus.{IsInBoth}
 use Rattle.via_search.specs.Through.{NamesPath, HasPathThrough, IsLengthThrough}
-use Rattle.canonical_trees.proofs.ThroughVertex.{via_parts, IsVia-unique, via_length}
+use Rattle.canonical_trees.proofs.ThroughVertex.{via_parts, via_length}
 use Rattle.road_model.proofs.Dists.{dist_of_shortest}
+use Rattle.road_model.proofs.CanonicalWalks.{IsVia-unique}
 use Rattle.canonical_trees.proofs.CanonicalExists.{first_of_dist, last_of_dist}
 
 -- an oracle's distance is one of the star, and it isn't long

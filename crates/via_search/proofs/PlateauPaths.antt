@@ -15,10 +15,10 @@ use Rattle.road_model.specs.Alternatives.{IsVia, IsAdmissible, IsName, IsPlateau
 use Rattle.road_model.specs.Answers.{IsRoute}
 use Rattle.road_model.proofs.Walks.{IsWalk-inside, walk_length-positive}
 use Rattle.road_model.proofs.Dists.{IsDist-itself, dist_of_shortest}
-use Rattle.road_model.proofs.CanonicalWalks.{IsFirst-unique, IsLast-unique}
+use Rattle.road_model.proofs.CanonicalWalks.{IsFirst-unique, IsLast-unique, IsVia-unique}
 use Rattle.canonical_trees.specs.Trees.{Trees}
 use Rattle.canonical_trees.proofs.Canonical.{IsLast-nil}
-use Rattle.canonical_trees.proofs.ThroughVertex.{IsVia-unique, via_walk, via_parts}
+use Rattle.canonical_trees.proofs.ThroughVertex.{via_walk, via_parts}
 use Rattle.plateau_finder.specs.declared.plateau.Plateau.{Plateau}
 use Rattle.plateau_finder.specs.Plateaus.{IsInBoth, IsPlateauOf, IsListedPlateau}
 use Rattle.tree_tests.specs.Sums.{Shares, carried}

@@ -1,7 +1,7 @@
 -- What the tests say, and what an admissible path passes.
-use Rattle.std.proofs.Common.{◌≡◌, ℕ, ◌+◌, ◌≤◌, Bool, true, false, List, [], ◌∷◌, cond, ◌==◌, refl, sym, ap, ◌∙◌, subst, arith}
-use Rattle.std.specs.List.{list_any, sum_by}
-use Rattle.std.proofs.lemmas.List.Sums.{sum_by-cons, sum_by-le-sum_by}
+use Rattle.std.proofs.Common.{◌≡◌, ℕ, ◌≤◌, List, cond, ◌==◌, refl, sym, subst, arith}
+use Rattle.std.specs.List.{list_any}
+use Rattle.std.proofs.lemmas.List.Sums.{sum_by-le-sum_by}
 use Rattle.road_model.specs.declared.answer.Optimum.{Optimum}
 use Rattle.road_model.specs.declared.answer.Query.{Query}
 use Rattle.road_model.specs.Graph.{Graph, length_at}
@@ -10,6 +10,8 @@ use Rattle.road_model.specs.Fraction.{Allows, Stretches}
 use Rattle.road_model.specs.Canonical.{IsFirst}
 use Rattle.road_model.specs.Tests.{shared}
 use Rattle.road_model.specs.Alternatives.{IsAdmissible}
+use Rattle.road_model.proofs.Basics.{cond-le}
+use Rattle.road_model.proofs.Walks.{walk_length-sum_by}
 use Rattle.via_search.specs.declared.judging.Judged.{Judged}
 use Rattle.via_search.specs.declared.judging.Judged.TheVariants.{Long, Shared, Local, Stretch, Passed}
 use Rattle.via_search.specs.declared.candidates.Candidate.{Candidate}
@@ -37,16 +39,6 @@ refused g q o p (Passed sum) best walk not h a = not sum refl
 
 pub passed_of : (g : Graph) (q : Query) (o p : List ℕ) (j : Judged) (sum : ℕ) → IsJudged g q o p j → j ≡ Passed sum → (sum ≡ shared g o p) × IsAdmissible g q o p
 passed_of g q o p j sum h is = subst (λ (x : Judged). IsJudged g q o p x) is h
-
--- the shared length is at most that of the optimum, and so of each path
-walk_length-sum_by : (g : Graph) (p : List ℕ) → walk_length g p ≡ sum_by (λ a. length_at g a) p
-walk_length-sum_by g [] = refl
-walk_length-sum_by g (a ∷ p) =
-    ap (λ (n : ℕ). length_at g a + n) (walk_length-sum_by g p) ∙ sym (sum_by-cons (λ x. length_at g x) a p)
-
-cond-le : (b : Bool) (n : ℕ) → cond b n 0 ≤ n
-cond-le true n = omega arith
-cond-le false n = omega arith
 
 shared-le : (g : Graph) (o p : List ℕ) → shared g o p ≤ walk_length g o
 shared-le g o p =

@@ -1,16 +1,15 @@
 -- The path through a vertex, and the two lengths that it is made of.
-use Rattle.std.proofs.Common.{◌≡◌, ℕ, ◌+◌, ◌*◌, ◌<◌, ◌≤◌, ◌^◌, ◌⊎◌, List, [], ◌∷◌, length, Option, Some, None, refl, sym, subst, arith, get_or, ⊎_elim}
-use Rattle.std.proofs.lemmas.List.{append-nil}
+use Rattle.std.proofs.Common.{◌≡◌, ℕ, ◌+◌, ◌*◌, ◌<◌, ◌≤◌, ◌^◌, ◌⊎◌, List, [], ◌∷◌, length, Option, Some, None, sym, subst, arith, ⊎_elim}
 use Rattle.std.proofs.lemmas.Bool.{cases_lt}
 use Rattle.road_model.specs.declared.answer.Query.{Query}
 use Rattle.road_model.specs.Graph.{Graph}
 use Rattle.road_model.specs.Walk.{IsWalk, walk_length}
 use Rattle.road_model.specs.Dist.{IsDist}
 use Rattle.road_model.specs.Canonical.{IsFirst}
-use Rattle.road_model.specs.Places.{places, sums, trail_of, vertex_at, between, IsDistAt}
+use Rattle.road_model.specs.Places.{trail_of, between}
 use Rattle.road_model.specs.Alternatives.{IsVia, IsAdmissible}
 use Rattle.road_model.proofs.Dists.{dist_of_shortest}
-use Rattle.road_model.proofs.Parts.{place_after, sum_after, length-places}
+use Rattle.road_model.proofs.Parts.{length-places, whole_sum, whole_dist}
 use Rattle.canonical_trees.specs.Trees.{Trees, IsInside, IsOutside, IsViaPath}
 use Rattle.canonical_trees.proofs.ThroughVertex.{via_parts, via_length}
 use Rattle.tree_search.specs.Ball.{IsWithin, IsBeyond}
@@ -58,20 +57,6 @@ inside_of_via g s t v bound radius p is h le =
       dist = dist_of_shortest g s v h.prefix h.first.shortest;
       within = subst (λ (r : Option ℕ). IsWithin r (walk_length g h.prefix)) (sym is) near;
     }
-
--- the whole of a walk, as a pair of places
-whole_sum : (g : Graph) (u : ℕ) (p : List ℕ) → between (trail_of g u p) 0 (length p) ≡ walk_length g p
-whole_sum g u p =
-    let last = subst (λ (l : List ℕ). get_or (sums g 0 l) (length p) 0 ≡ 0 + walk_length g p) (append-nil p) (sum_after g p [] 0) in
-    let first = sum_after g [] p 0 in
-    omega arith
-
-whole_dist : (g : Graph) (u v d : ℕ) (p : List ℕ) → IsWalk g u p v → IsDist g u v (Some d) → IsDistAt g (trail_of g u p) 0 (length p) d
-whole_dist g u v d p walk h =
-    let last : vertex_at (trail_of g u p) (length p) ≡ v = subst (λ (l : List ℕ). get_or (places g u l) (length p) 0 ≡ v) (append-nil p) (place_after g p [] u v walk) in
-    let first : vertex_at (trail_of g u p) 0 ≡ u = place_after g [] p u u refl in
-    subst (λ (x : ℕ). IsDist g x (vertex_at (trail_of g u p) (length p)) (Some d)) (sym first)
-    (subst (λ (x : ℕ). IsDist g u x (Some d)) (sym last) h)
 
 -- so an admissible path is near: a walk that is too long fails the stretch as a whole
 pub near_of_admissible : (g : Graph) (q : Query) (o p : List ℕ) → IsFirst g q.from o q.to → IsWalk g q.from p q.to → IsAdmissible g q o p → IsNear g q (walk_length g o) p

@@ -1,6 +1,6 @@
 -- How many questions a plan asks: for each path of the query that is within the stretch bound and isn't the optimum
 -- at most its cost. The sum is said by every function that is no less than the cost at each such path's name.
---   cost a b               the questions that a path may take, with a arcs before its name and b behind it: its
+--   cost a b               the questions that a path may take, with a arcs before its name and b after it: its
 --                          local optimality, and then its stretch
 --   BoundsEach g s t n o f f is at least the cost at the name of each path through a vertex that is at most n long,
 --                          other than o

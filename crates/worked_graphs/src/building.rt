@@ -1,6 +1,7 @@
 ghost use Rattle.std.specs.Prelude.{◌≡◌, IfOk};
 ghost use Rattle.worked_graphs.specs.Rows.{all_rows};
 
+use forward_star::Star;
 use road_model::{ArcRow, ArcRows, GraphFile, MAX_ARCS, MAX_LENGTH, MAX_VERTICES, Vertex};
 use std::alloc::Global;
 use std::test::Fail;
@@ -26,4 +27,11 @@ pub fn graph_of(alloc: Global, vertices: u32, arcs: &[(u32, u32, u64)]) -> Resul
         })?;
     }
     Ok(GraphFile::new(vertices, rows))
+}
+
+/// The star of the same graph. It fails as [`graph_of`] does.
+pub fn star_of(alloc: Global, vertices: u32, arcs: &[(u32, u32, u64)]) -> Result<Star, Fail>
+    ensures { IfOk result (λ s. s ≡ record { vertices = vertices; arcs = all_rows arcs.now }) }
+{
+    Ok(Star::build(alloc, graph_of(alloc, vertices, arcs)?)?)
 }

@@ -2,7 +2,6 @@
 
 ghost use Rattle.label_setting.specs.Search.{IsTracked};
 
-use crate::graphs::star_of;
 use forward_star::Star;
 use label_setting::SearchMemory;
 use road_model::{Oracle, Vertex};
@@ -10,7 +9,7 @@ use std::alloc::Global;
 use std::process::Abort;
 use std::test::Fail;
 use tree_search::{Ball, PlainOracle, search};
-use worked_graphs::{A, vertex_of};
+use worked_graphs::{A, star_of, vertex_of};
 
 fn ball_of(alloc: Global, star: &Star, root: u32, radius: Option<u64>) -> Result<Ball, Fail> {
     let vertices = star.vertices();

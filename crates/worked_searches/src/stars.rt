@@ -1,11 +1,11 @@
 //! Arcs by the vertices that they lead out of and into, and changes of their lengths.
 
-use crate::graphs::star_of;
 use forward_star::Star;
 use road_model::{ArcNo, Change, ChangeFault, Network, Step, Vertex};
 use std::alloc::Global;
 use std::process::Abort;
 use std::test::Fail;
+use worked_graphs::star_of;
 
 // A vertex and the number of a step, counted from 0; the arc, its other end and its length, where there is such a step.
 type Row = (u32, u32, Option<(u32, u32, u64)>);

@@ -2,8 +2,6 @@
 #![tactic(auto)]
 
 #[cfg(test)]
-mod graphs;
-#[cfg(test)]
 mod plateau_lists;
 #[cfg(test)]
 mod tree_pairs;

@@ -1,6 +1,5 @@
 //! Plateaus.
 
-use crate::graphs::star_of;
 use canonical_trees::trees;
 use forward_star::Star;
 use plateau_finder::{Plateau, PlateauList, plateau_of, plateaus, plateaus_within};
@@ -9,7 +8,7 @@ use std::alloc::Global;
 use std::fmt::Write;
 use std::process::Abort;
 use std::test::Fail;
-use worked_graphs::{A, Arcs, D, vertex_of};
+use worked_graphs::{A, Arcs, D, star_of, vertex_of};
 
 // One path, through all four vertices.
 const LINE: Arcs = &[(1, 3, 1), (3, 2, 1), (2, 4, 1)];

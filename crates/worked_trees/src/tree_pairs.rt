@@ -1,6 +1,5 @@
 //! Canonical paths, and the trees that they lie in.
 
-use crate::graphs::star_of;
 use canonical_trees::{
     TreeMemory, TreePair, optimum, tree_from, tree_to, trees, trees_in, via_path,
 };
@@ -9,7 +8,7 @@ use road_model::{ArcNo, Vertex, VertexList};
 use std::alloc::Global;
 use std::process::Abort;
 use std::test::Fail;
-use worked_graphs::{A, Arcs, D, LONG, PARALLEL, vertex_of};
+use worked_graphs::{A, Arcs, D, LONG, PARALLEL, star_of, vertex_of};
 
 const BARE: Arcs = &[];
 

@@ -8,9 +8,7 @@ use local_optimality::local;
 use path_tests::{shared, stretch};
 use road_model::{ArcList, ArcNo, NoMemory, Pair, Ratio, Trail, Vertex};
 use std::alloc::Global;
-use std::test::Fail;
 use tree_search::PlainOracle;
-use worked_graphs::graph_of;
 
 /// A test of a walk.
 #[derive(Drop)]
@@ -24,11 +22,6 @@ pub enum Test {
 pub struct ViaWalk {
     pub trail: Trail,
     pub via_at: u32,
-}
-
-/// The star of a graph; an arc outside the limits fails the test.
-pub fn star_of(alloc: Global, vertices: u32, arcs: &[(u32, u32, u64)]) -> Result<Star, Fail> {
-    Ok(Star::build(alloc, graph_of(alloc, vertices, arcs)?)?)
 }
 
 pub fn arc_list(alloc: Global, numbers: &[u32]) -> Result<ArcList, NoMemory> {

@@ -4,7 +4,6 @@ ghost use Rattle.std.specs.Prelude.{IfOk};
 ghost use Rattle.road_model.specs.Graph.{IsVertex};
 ghost use Rattle.road_model.specs.Dist.{HaveSameDist};
 
-use crate::graphs::star_of;
 use forward_star::Star;
 use road_model::{ArcList, NoMemory, Oracle, Pair, Plan, Query, Ratio, Verdict, Vertex};
 use std::alloc::{AllocError, Global};
@@ -13,7 +12,7 @@ use std::process::Abort;
 use std::test::Fail;
 use tree_search::PlainOracle;
 use via_search::{PlanMemory, plan, plan_in, verdict};
-use worked_graphs::{A, Arcs, B, C, D, PARALLEL, STUB, vertex_of};
+use worked_graphs::{A, Arcs, B, C, D, PARALLEL, STUB, star_of, vertex_of};
 
 /// Gamma, alpha and epsilon.
 type Ratios = [(u64, u64); 3];

@@ -1,6 +1,6 @@
 //! Tests of paths, and ranks.
 
-use crate::graphs::{Test, arc_list, failing_pair, shared_with_optimum, star_of};
+use crate::graphs::{Test, arc_list, failing_pair, shared_with_optimum};
 use forward_star::Star;
 use path_tests::within_share;
 use road_model::{ArcList, Pair, Ratio, Route, RouteList, Vertex};
@@ -8,7 +8,7 @@ use route_ranking::{order_routes, rank};
 use std::alloc::Global;
 use std::process::Abort;
 use std::test::Fail;
-use worked_graphs::{A, Arcs, B, STUB};
+use worked_graphs::{A, Arcs, B, STUB, star_of};
 
 // The places of a failing pair, and its distance.
 type Failing = Option<(u32, u32, u64)>;

@@ -1,6 +1,6 @@
 use Rattle.std.proofs.Common.{◌∙◌, ◌+◌, ◌-◌, ap, refl, ℕ, arith}
 use Rattle.forward_star.proofs.Bound.{dists_below}
-use Rattle.tree_search.specs.Oracle.{Questions}
+use Rattle.road_model.specs.Oracles.{Questions}
 use Rattle.grid_survey.specs.Summary.{step}
 use Rattle.grid_survey.proofs.Progress.{has_room, next_query, progress_end, progress_more, progress_start}
 use Rattle.grid_survey.proofs.queries.answer_all.Goals as goal

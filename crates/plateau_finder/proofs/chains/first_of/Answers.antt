@@ -1,5 +1,5 @@
-use Rattle.plateau_finder.proofs.Sound.{sound_of}
 use Rattle.plateau_finder.proofs.WholeChains.{link_farther, back_more}
+use Rattle.road_model.proofs.Walks.{sound_of}
 use Rattle.plateau_finder.proofs.chains.first_of.Goals as goal
 
 pub loop-previous-init : goal.loop-previous-init

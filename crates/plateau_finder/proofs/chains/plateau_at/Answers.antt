@@ -1,5 +1,6 @@
 use Rattle.std.proofs.lemmas.Bool.{iff_false}
-use Rattle.plateau_finder.proofs.Sound.{sound_of, vertex_of}
+use Rattle.road_model.proofs.Walks.{sound_of}
+use Rattle.plateau_finder.proofs.Sound.{vertex_of}
 use Rattle.plateau_finder.proofs.WholeChains.{not_within, starts, inside_both}
 use Rattle.plateau_finder.proofs.chains.plateau_at.Goals as goal
 

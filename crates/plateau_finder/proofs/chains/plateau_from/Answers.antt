@@ -1,5 +1,5 @@
 use Rattle.std.proofs.Common.{◌≤◌, arith}
-use Rattle.plateau_finder.proofs.Sound.{sound_of}
+use Rattle.road_model.proofs.Walks.{sound_of}
 use Rattle.plateau_finder.proofs.WholeChains.{link_nearer, chain_start, chain_more, chain_whole}
 use Rattle.plateau_finder.proofs.chains.plateau_from.Goals as goal
 

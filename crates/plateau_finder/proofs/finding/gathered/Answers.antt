@@ -1,7 +1,7 @@
 use Rattle.std.proofs.Common.{◌≡◌, [], ◌∷◌, ◌++◌, List, ℕ, length, refl, sym, subst, arith}
 use Rattle.std.specs.List.Sorted.{IsStrictlyIncreasing}
 use Rattle.std.proofs.lemmas.Option.{slice_get_read}
-use Rattle.plateau_finder.proofs.Sound.{sound_of}
+use Rattle.road_model.proofs.Walks.{sound_of}
 use Rattle.plateau_finder.proofs.Gathered.{gathering_none, gathering_some, gathered_all}
 use Rattle.plateau_finder.proofs.finding.gathered.Goals as goal
 use Rattle.plateau_finder.proofs.finding.gathered.Goals.{in-Some+in_ok-push, in_default}

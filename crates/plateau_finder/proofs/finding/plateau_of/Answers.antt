@@ -1,7 +1,8 @@
 use Rattle.std.proofs.Common.{ℕ, List, sym, subst}
+use Rattle.road_model.proofs.Walks.{sound_of}
 use Rattle.plateau_finder.specs.declared.plateau.Plateau.{Plateau}
 use Rattle.plateau_finder.specs.Links.{HasLeast, IsChainBack}
-use Rattle.plateau_finder.proofs.Sound.{sound_of, vertex_of}
+use Rattle.plateau_finder.proofs.Sound.{vertex_of}
 use Rattle.plateau_finder.proofs.WholeChains.{inside_both}
 use Rattle.plateau_finder.proofs.Gathered.{has_least, plateau_found, listed_as}
 use Rattle.plateau_finder.proofs.finding.plateau_of.Goals as goal

@@ -1,5 +1,5 @@
 use Rattle.tree_tests.proofs.OnPaths.{on_of_dist, met_some}
-use Rattle.tree_tests.proofs.UpSteps.{sound_of}
+use Rattle.road_model.proofs.Walks.{sound_of}
 use Rattle.tree_tests.proofs.refusals.tried.Goals as goal
 
 pub returns-clause-never : goal.returns-clause-never

@@ -1,5 +1,6 @@
 use Rattle.tree_tests.specs.declared.sides.Side.TheVariants.{Source, Target}
-use Rattle.tree_tests.proofs.UpSteps.{up_from, up_to, up_at, inside_at, sound_of}
+use Rattle.road_model.proofs.Walks.{sound_of}
+use Rattle.tree_tests.proofs.UpSteps.{up_from, up_to, up_at, inside_at}
 use Rattle.tree_tests.proofs.sides.step_up.Goals as goal
 
 pub returns-in-Source : goal.returns-in-Source

@@ -4,7 +4,7 @@ use Rattle.road_model.specs.Dist.{IsDist}
 use Rattle.hierarchy_build.specs.Parts.{Parts}
 use Rattle.hierarchy_build.specs.Hierarchy.{IsHierarchy}
 use Rattle.hierarchy_build.specs.Own.{own_graph}
-use Rattle.hierarchy_query.specs.Asks.{Questions}
+use Rattle.road_model.specs.Oracles.{Questions}
 use Rattle.hierarchy_query.proofs.Asks.{least_of_ranks, dist_of_least, none_of_least}
 use Rattle.hierarchy_query.proofs.oracle.HierarchyOracleOracle.distance.Goals as goal
 

@@ -1,6 +1,6 @@
 use Rattle.std.proofs.Common.{◌≡◌, sym, ap, ◌∙◌}
 use Rattle.forward_star.proofs.Bound.{dists_below}
-use Rattle.tree_search.specs.Oracle.{Questions}
+use Rattle.road_model.specs.Oracles.{Questions}
 use Rattle.route_engine.specs.Lineage.{graph_of}
 use Rattle.route_engine.proofs.Batches.{HaveSameDist-same}
 use Rattle.route_engine.proofs.prepared.Prepared.oracle.Goals as goal

@@ -1,38 +1,15 @@
-use super::*;
+//! Optima by distances from their source.
+
 use contraction_order::order_of;
 use forward_star::Star;
 use hierarchy_build::contract;
+use hierarchy_optimum::optimum_by;
 use hierarchy_query::{DistancesFrom, HillMemory};
-use road_model::{ArcRow, ArcRows, GraphFile, Optimum, Vertex};
+use road_model::Optimum;
 use std::alloc::Global;
 use std::sync::Arc;
 use std::test::Fail;
-
-// Two shortest walks lead from 1 to 3, and 5 is reached from nowhere.
-static ARCS: [(u32, u32, u64); 6] = [
-    (1, 2, 10),
-    (2, 6, 10),
-    (1, 3, 11),
-    (3, 4, 6),
-    (4, 6, 5),
-    (2, 3, 1),
-];
-
-fn star_of(alloc: Global) -> Result<Star, Fail> {
-    let mut rows = ArcRows::new(alloc);
-    for arc in &ARCS {
-        let (tail, head, length) = *arc;
-        if tail < 1 || tail > 6 || head < 1 || head > 6 || length < 1 || length > 11 {
-            return Err("an arc outside the limits".into());
-        }
-        rows.push(ArcRow {
-            tail: Vertex(tail),
-            head: Vertex(head),
-            length,
-        })?;
-    }
-    Ok(Star::build(alloc, GraphFile::new(6, rows))?)
-}
+use worked_graphs::{A, star_of, vertex_of};
 
 // An optimum as a text, as "20: 1 2".
 fn text_of(alloc: Global, best: &Option<Optimum>) -> Result<String, Fail> {
@@ -55,13 +32,12 @@ fn best(
     to: u32,
 ) -> Result<(String, HillMemory), Fail> {
     let vertices = star.vertices();
-    if from == 0 || from > vertices || to == 0 || to > vertices {
-        return Err("no such vertex".into());
-    }
+    let from = vertex_of(vertices, from)?;
+    let to = vertex_of(vertices, to)?;
     let order = order_of(alloc, star)?;
     let hierarchy = Arc::new(alloc, contract(alloc, star, order)?)?;
-    let mut distances = DistancesFrom::in_memory(alloc, memory, hierarchy, Vertex(from))?;
-    let best = optimum_by(alloc, star, &mut distances, Vertex(to))?;
+    let mut distances = DistancesFrom::in_memory(alloc, memory, hierarchy, from)?;
+    let best = optimum_by(alloc, star, &mut distances, to)?;
     let text = text_of(alloc, &best)?;
     Ok((text, distances.into_memory()))
 }
@@ -69,7 +45,7 @@ fn best(
 #[test]
 fn finds_one_canonical_path_after_another_in_one_memory(rt: HostRuntime) -> Result<(), Fail> {
     let alloc = rt.alloc();
-    let star = star_of(alloc)?;
+    let star = star_of(alloc, 6, A)?;
     let memory = HillMemory::new(alloc);
     let (tied, memory) = best(alloc, memory, &star, 1, 3)?;
     assert_eq!(rt; tied.as_str(), "11: 3");
