@@ -9,9 +9,8 @@ use Rattle.desk_core.specs.declared.caller.Caller.{Caller}
 use Rattle.desk_core.specs.declared.event.Event.TheVariants as event
 use Rattle.desk_core.specs.declared.event.Outcome.{Outcome}
 use Rattle.desk_core.specs.declared.event.Outcome.TheVariants as outcome
-use Rattle.desk_core.specs.Desks.{DeskState}
 use Rattle.desk_core.specs.Histories.{History, newest_in, graph_in}
-use Rattle.desk_core.specs.Worlds.{WorldState, new_caller, caller_of, with_caller, plan_in, IsTurn, IsEventStep}
+use Rattle.desk_core.specs.Worlds.{WorldState, new_caller, caller_of, plan_in, IsTurn, IsEventStep}
 use Rattle.desk_core.specs.WorldSteps.{WasStep}
 use Rattle.desk_core.specs.CallerTurns.{IsAsked, WasAsked}
 

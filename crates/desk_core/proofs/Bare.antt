@@ -1,26 +1,21 @@
 -- Versions of a graph without arcs: no batch with a change is accepted, so each batch is empty.
-use Rattle.std.proofs.Common.{◌≡◌, ◌≢◌, ℕ, zero, suc, ◌+◌, Bool, true, false, List, [], ◌∷◌, ◌++◌, length, replicate, Option, Some, None, refl, sym, ap, ◌∙◌, subst, eqb, arith, inr}
-use Rattle.std.specs.Prelude.{nat_le, ◌&&◌, ◌==◌, if◌then◌else◌, reverse}
+use Rattle.std.proofs.Common.{◌≡◌, ℕ, zero, suc, ◌+◌, Bool, true, false, List, [], ◌∷◌, ◌++◌, length, replicate, Some, refl, sym, ap, ◌∙◌, subst, eqb, arith, inr}
+use Rattle.std.specs.Prelude.{nat_le, ◌&&◌, ◌==◌}
 use Rattle.std.proofs.lemmas.Bool.Decides.{nat_tests}
-use Rattle.std.specs.Option.{option_or}
 use Rattle.std.proofs.lemmas.Bool.{eqb-true}
-use Rattle.std.proofs.lemmas.List.{length-replicate}
 use Rattle.std.proofs.lemmas.List.Elements.{All-nil}
 use Rattle.road_model.specs.declared.answer.Optimum.{Optimum}
 use Rattle.road_model.specs.declared.answer.Plan.{Plan}
 use Rattle.road_model.specs.declared.answer.Plan.TheVariants.{NoPath, Found}
 use Rattle.road_model.specs.declared.answer.Query.{Query}
-use Rattle.road_model.specs.declared.answer.Route.{Route}
 use Rattle.road_model.specs.declared.change.Change.{Change}
-use Rattle.road_model.specs.declared.change.ChangeFault.{ChangeFault}
 use Rattle.road_model.specs.declared.change.ChangeFault.TheVariants as fault
 use Rattle.road_model.specs.Graph.{Graph, arc_count}
 use Rattle.road_model.specs.Walk.{IsWalk}
 use Rattle.road_model.specs.Dist.{IsShortest}
-use Rattle.road_model.specs.Canonical.{IsFirst, IsOptimum}
-use Rattle.road_model.specs.Alternatives.{IsAlternative}
-use Rattle.road_model.specs.Answers.{IsAnswer, IsRoute, HasRoute}
-use Rattle.road_model.specs.Changes.{after_all, fault_of}
+use Rattle.road_model.specs.Canonical.{IsFirst}
+use Rattle.road_model.specs.Answers.{IsAnswer, IsRoute}
+use Rattle.road_model.specs.Changes.{after_all}
 use Rattle.road_model.specs.Versions.{version_fault, IsRefusedAs}
 use Rattle.desk_core.proofs.Arcless.{arcless, no_arc, no_walk}
 

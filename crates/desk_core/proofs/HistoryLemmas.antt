@@ -1,5 +1,5 @@
 -- The versions of a graph, in order.
-use Rattle.std.proofs.Common.{◌≡◌, ◌≢◌, ℕ, ◌+◌, ◌-◌, ◌<◌, ◌≤◌, List, [], ◌∷◌, ◌++◌, length, get_or, take, refl, sym, ap, ◌∙◌, subst, arith, ⊎_elim}
+use Rattle.std.proofs.Common.{◌≡◌, ℕ, ◌+◌, ◌-◌, ◌<◌, ◌≤◌, List, [], ◌∷◌, ◌++◌, length, get_or, take, refl, sym, ap, ◌∙◌, subst, arith, ⊎_elim}
 use Rattle.std.proofs.lemmas.Bool.{cases_lt}
 use Rattle.std.proofs.Math.ListN.{get_or-eq_default}
 use Rattle.std.proofs.lemmas.List.{get_or_append_left, get_or_default, length-append, take-append-le, take_all}
@@ -7,7 +7,7 @@ use Rattle.std.proofs.Math.Seq.{get_or-append_seam}
 use Rattle.road_model.specs.declared.change.Change.{Change}
 use Rattle.road_model.specs.Graph.{Graph}
 use Rattle.road_model.specs.Changes.{after_all}
-use Rattle.desk_core.specs.Histories.{History, newest_in, graph_in, grown, AreVersions}
+use Rattle.desk_core.specs.Histories.{History, newest_in, graph_in, AreVersions}
 
 -- the graph of the newest version is that after all batches
 pub graph_of_newest : (h : History) → graph_in h (newest_in h) ≡ after_all h.base h.batches

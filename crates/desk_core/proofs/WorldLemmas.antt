@@ -1,11 +1,10 @@
 -- Runs of a world.
-use Rattle.std.proofs.Common.{◌≡◌, ◌≢◌, ℕ, ◌+◌, ◌-◌, ◌<◌, ◌≤◌, ◌⊎◌, Bool, true, false, List, [], ◌∷◌, ◌++◌, length, get_or, set, take, drop, replicate, refl, sym, ap, ◌∙◌, subst, arith, ⊎_elim, append_assoc, get_or-set_same, get_or-set_other, length-append}
+use Rattle.std.proofs.Common.{◌≡◌, ◌≢◌, ℕ, ◌+◌, ◌-◌, ◌<◌, ◌≤◌, ◌⊎◌, Bool, true, false, List, [], ◌∷◌, ◌++◌, length, get_or, set, take, drop, replicate, refl, sym, ap, ◌∙◌, subst, arith, ⊎_elim, append_assoc, get_or-set_same, get_or-set_other}
 use Rattle.std.specs.Prelude.{◌==◌, if◌then◌else◌, Option}
 use Rattle.std.specs.Cmp.{unsigned_Decides}
 use Rattle.std.specs.List.{All}
 use Rattle.std.proofs.Math.ListN.{length-set}
 use Rattle.std.proofs.lemmas.List.{append-nil, get_or-replicate, length-replicate, take-append-drop, take-append-le, take_more}
-use Rattle.std.proofs.lemmas.List.Elements.{All-replicate, All-set, All-weaker}
 use Rattle.road_model.specs.declared.answer.Plan.{Plan}
 use Rattle.road_model.specs.declared.change.Change.{Change}
 use Rattle.road_model.specs.declared.request.Reply.{Reply}
@@ -18,8 +17,8 @@ use Rattle.desk_core.specs.declared.event.Event.TheVariants as event
 use Rattle.desk_core.specs.declared.event.Outcome.{Outcome}
 use Rattle.desk_core.specs.declared.event.Outcome.TheVariants as outcome
 use Rattle.desk_core.specs.Desks.{DeskState, empty_desk}
-use Rattle.desk_core.specs.Histories.{History, newest_in, graph_in, grown}
-use Rattle.desk_core.specs.Worlds.{WorldState, new_caller, started, caller_of, with_caller, plan_in, IsSeen, IsEventFor, IsEventStep, IsReplied, IsTurn, IsWorldRun, IsRunOfSome, own_requests, replies_to, IsAlone}
+use Rattle.desk_core.specs.Histories.{newest_in, graph_in}
+use Rattle.desk_core.specs.Worlds.{WorldState, new_caller, started, caller_of, with_caller, plan_in, IsEventFor, IsEventStep, IsReplied, IsTurn, IsWorldRun, IsRunOfSome, own_requests, replies_to, IsAlone}
 use Rattle.desk_core.specs.WorldSteps.{WasStep}
 
 -- ---- what a step leaves

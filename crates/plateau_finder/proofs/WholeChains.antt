@@ -13,7 +13,7 @@ use Rattle.canonical_trees.proofs.CanonicalExists.{first_of_dist, last_of_dist}
 use Rattle.canonical_trees.proofs.CanonicalParts.{within_less}
 use Rattle.canonical_trees.proofs.ThroughVertex.{via_parts, via_length}
 use Rattle.plateau_finder.specs.declared.plateau.Plateau.{Plateau}
-use Rattle.plateau_finder.specs.Plateaus.{IsInBoth, IsThrough, IsPlateauOf, IsListedPlateau, IsOwnPlateau}
+use Rattle.plateau_finder.specs.Plateaus.{IsInBoth, IsThrough, IsPlateauOf, IsOwnPlateau}
 use Rattle.plateau_finder.specs.Links.{IsLink, IsLinkInside, IsNext, IsPrevious, IsChainFrom, IsChainBack, HasLinkInto, IsStart, StartsAt}
 use Rattle.plateau_finder.proofs.LinkedVias.{same_place, farther, later_links, earlier_links, link_walk, via_on, via_before}
 

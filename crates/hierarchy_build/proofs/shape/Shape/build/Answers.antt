@@ -1,6 +1,5 @@
 use Rattle.std.proofs.Common.{◌≡◌, [], ℕ, List, length, sym, ap, ◌∙◌, subst}
 use Rattle.std.specs.List.{All}
-use Rattle.road_model.specs.declared.rows.ArcRow.{ArcRow}
 use Rattle.road_model.specs.Graph.{rows_of, IsArc}
 use Rattle.hierarchy_build.specs.Runs.{IsRanked}
 use Rattle.hierarchy_build.specs.Waits.{IsDue}

@@ -1,4 +1,4 @@
-use Rattle.std.proofs.Common.{◌≡◌, ◌≤◌, ◌+◌, ◌-◌, ◌*◌, ◌/◌, ◌%◌, List, length, slice_get, option_copied, Some, None, ap, sym, ◌∙◌, arith}
+use Rattle.std.proofs.Common.{◌≡◌, ◌≤◌, ◌-◌, ◌*◌, ◌/◌, ◌%◌, List, length, slice_get, option_copied, Some, None, ap, sym, ◌∙◌, arith}
 use Rattle.road_model.specs.declared.change.Change.{Change}
 use Rattle.route_engine.proofs.Chunks.{slice_get-full, slice_get-last, past_end}
 use Rattle.route_engine.proofs.past.Past.get.Goals as goal

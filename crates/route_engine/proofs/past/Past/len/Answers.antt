@@ -1,4 +1,4 @@
-use Rattle.std.proofs.Common.{◌≡◌, ◌<◌, length, ◌+◌, ◌*◌, ap, ◌∙◌, arith}
+use Rattle.std.proofs.Common.{◌≡◌, length, ap, ◌∙◌, arith}
 use Rattle.route_engine.specs.Past.{joined}
 use Rattle.route_engine.proofs.Chunks.{length-joined}
 use Rattle.route_engine.proofs.past.Past.len.Goals as goal

@@ -1,4 +1,4 @@
-use Rattle.std.proofs.Common.{◌≡◌, ◌≤◌, ◌++◌, ◌∷◌, [], List, length, ap, sym, ◌∙◌, subst, arith}
+use Rattle.std.proofs.Common.{◌≡◌, ◌≤◌, ◌++◌, ◌∷◌, [], List, length, sym, subst, arith}
 use Rattle.road_model.specs.declared.change.Change.{Change}
 use Rattle.route_engine.specs.Past.{AreChunks}
 use Rattle.route_engine.proofs.Chunks.{chunk_added}

@@ -4,7 +4,7 @@ use Rattle.road_model.specs.declared.change.Change.{Change}
 use Rattle.road_model.specs.Graph.{Graph}
 use Rattle.road_model.specs.Changes.{after, after_all}
 use Rattle.hierarchy_build.specs.Hierarchy.{IsShapeOf}
-use Rattle.route_engine.specs.Lineage.{Lineage, Serves, graph_of}
+use Rattle.route_engine.specs.Lineage.{Serves, graph_of}
 use Rattle.route_engine.proofs.Batches.{after_all-append, IsShapeOf-after}
 use Rattle.route_engine.proofs.prepared.Prepared.followed_by.Goals as goal
 
