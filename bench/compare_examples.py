@@ -3,8 +3,8 @@
 
 For each examples/NAME.requests the program answers over examples/NAME.gr, and has to write examples/NAME.replies, and so
 have the definitions (plain.py), from which the stored replies are. README shows the replies to small.requests, and each
-of its blocks with lines `> REQUEST` is a run over small.gr, which is held to the definitions. It ends with 1 where a byte
-differs.
+of its blocks with lines `> REQUEST` is a run over small.gr, which is held to the definitions. The certificate small.cert is
+the one by the definitions, docs/certificates.md shows it, and the program accepts it. It ends with 1 where a byte differs.
 """
 import glob
 import os
@@ -12,6 +12,7 @@ import re
 import sys
 
 import plain
+import plain_certificates
 import program
 
 
@@ -46,6 +47,12 @@ def main():
         run = plain.Run(small)
         for request, reply in re.findall(rb"^> (.*)\n((?:[^>].*\n)*)", block, re.M):
             demand("README, " + request.decode(), reply, run.reply(request))
+    certificate = os.path.join(program.TOP, "examples", "small.cert")
+    demand("small.cert, by the definitions", plain_certificates.certificate(small, 1, 6), read(certificate))
+    shown = re.search(rb"^```\n( 1 cert.*?)^```$", read(os.path.join(program.TOP, "docs", "certificates.md")), re.M | re.S)
+    demand("docs/certificates.md", re.sub(rb"^.{3}", b"", shown[1], flags=re.M), read(certificate))
+    status, output = program.road("recheck", os.path.join(program.TOP, "examples", "small.gr"), certificate)
+    demand("small.cert", b"%sstatus %d" % (output, status), b"yes 2\nstatus 0")
     print("%d examples, %d blocks of README: the same bytes" % (len(examples), len(blocks)))
 
 

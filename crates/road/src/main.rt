@@ -18,7 +18,8 @@ const COMMANDS: &str = "  road check GRAPH
   road print GRAPH
   road make SEED WIDTH HEIGHT
   road survey SEED WIDTH HEIGHT QUERIES
-  road answer GRAPH < REQUESTS";
+  road answer GRAPH < REQUESTS
+  road recheck GRAPH CERTIFICATE";
 
 /// The words after the program's name.
 fn words(rt: &HostRuntime) -> io::Result<Vec<String>> {
@@ -44,6 +45,9 @@ fn ends_without_words(kind: ErrorKind) -> Status
 fn tell(rt: &HostRuntime, status: Status, file: Option<&String>) {
     let _ = eprintln!(rt; "road: {status}");
     match (status, file) {
+        (Status::CheckedNo(fault), _) => {
+            let _ = eprintln!(rt; "{fault}");
+        }
         (Status::Usage, _) => {
             let _ = eprintln!(rt; "the commands are:\n{COMMANDS}");
         }
@@ -54,7 +58,7 @@ fn tell(rt: &HostRuntime, status: Status, file: Option<&String>) {
         }
         (Status::ReadFault, Some(name)) => {
             let _ = eprintln!(rt;
-                "the graph file is {name}; it, or the standard input, can't be read"
+                "the graph file is {name}; it, a certificate, or the standard input, can't be read"
             );
         }
         _ => {}

@@ -1,3 +1,4 @@
+pub mod CheckingLemmas
 pub mod GivingLemmas
 pub mod AskingLemmas
 pub mod InputLemmas

@@ -4,7 +4,9 @@
 --   IsWhole status               the work was done, or memory was refused, or the input is too long
 --   HasFile command              the command names a graph file
 --   IsAccepted shelf name        the shelf tells its files, and that of the name is a graph file without a fault
---   IsReady command shelf name   there is a command, and the graph file that it names, if it does, is accepted
+--   IsThere shelf name           the shelf tells its files, and there is one of the name
+--   IsReady command shelf words  there is a command, the graph file that it names, if it does, is accepted, and its other file,
+--                                if it has one, is there
 --   HasFault told name fault     the file of the name has this first fault
 --   IsCutOff told name after     a read of the file of the name failed after whole lines that have no fault
 --   IsUnjudged told name after   the file of the name couldn't be picked, and the shelf is as before; or a read of it
@@ -17,13 +19,15 @@ use Rattle.dimacs_reader.specs.declared.fault.GraphFault.{GraphFault}
 use Rattle.dimacs_reader.specs.Gr.{gr_text}
 use Rattle.dimacs_reader.specs.Reads.{IsCutShort}
 use Rattle.route_server.specs.declared.status.Status.{Status}
-use Rattle.route_server.specs.declared.status.Status.TheVariants.{Done, Usage, GraphRefused, ReadFault, WriteFault, NoMemory, InputLong}
+use Rattle.route_server.specs.declared.status.Status.TheVariants.{Done, CheckedNo, Usage, GraphRefused, ReadFault, WriteFault, NoMemory, InputLong}
 use Rattle.route_server.specs.declared.words.Command.{Command}
-use Rattle.route_server.specs.declared.words.Command.TheVariants.{Check, Print, Make, Survey, Answer}
+use Rattle.route_server.specs.declared.words.Command.TheVariants.{Check, Print, Make, Survey, Answer, Recheck}
+use Rattle.route_server.specs.Words.{name_of, other_name_of}
 use Rattle.route_server.specs.Asking.{lines_within, most_input, NoQuit}
 
 abbrev pub IsRefusal : Status → Type 0
 IsRefusal Done = ⊥
+IsRefusal (CheckedNo fault) = ⊥
 IsRefusal Usage = Unit {0}
 IsRefusal (GraphRefused fault) = Unit {0}
 IsRefusal ReadFault = ⊥
@@ -33,6 +37,7 @@ IsRefusal InputLong = ⊥
 
 abbrev pub IsEarly : Status → Type 0
 IsEarly Done = ⊥
+IsEarly (CheckedNo fault) = ⊥
 IsEarly Usage = Unit {0}
 IsEarly (GraphRefused fault) = Unit {0}
 IsEarly ReadFault = Unit {0}
@@ -42,6 +47,7 @@ IsEarly InputLong = Unit {0}
 
 abbrev pub IsWhole : Status → Type 0
 IsWhole Done = Unit {0}
+IsWhole (CheckedNo fault) = Unit {0}
 IsWhole Usage = ⊥
 IsWhole (GraphRefused fault) = ⊥
 IsWhole ReadFault = ⊥
@@ -50,7 +56,7 @@ IsWhole NoMemory = Unit {0}
 IsWhole InputLong = Unit {0}
 
 abbrev pub HasFile : Option Command → Type 0
-HasFile command = (command ≡ Some Check) ⊎ ((command ≡ Some Print) ⊎ (command ≡ Some Answer))
+HasFile command = (command ≡ Some Check) ⊎ ((command ≡ Some Print) ⊎ ((command ≡ Some Answer) ⊎ (command ≡ Some Recheck)))
 
 pub record IsAccepted (shelf : Option Told) (name : List ℕ) : Type 0 where
   pub told : Told
@@ -60,13 +66,21 @@ pub record IsAccepted (shelf : Option Told) (name : List ℕ) : Type 0 where
   pub graph : Graph
   pub whole : gr_text bytes ≡ Ok graph
 
-abbrev pub IsReady : Option Command → Option Told → List ℕ → Type 0
-IsReady None shelf name = ⊥
-IsReady (Some Check) shelf name = IsAccepted shelf name
-IsReady (Some Print) shelf name = IsAccepted shelf name
-IsReady (Some (Make grid)) shelf name = Unit {0}
-IsReady (Some (Survey grid queries)) shelf name = Unit {0}
-IsReady (Some Answer) shelf name = IsAccepted shelf name
+-- the shelf tells its files, and that of the name is there
+pub record IsThere (shelf : Option Told) (name : List ℕ) : Type 0 where
+  pub told : Told
+  pub is : shelf ≡ Some told
+  pub bytes : List ℕ
+  pub file : told.files name ≡ Some bytes
+
+abbrev pub IsReady : Option Command → Option Told → List (List ℕ) → Type 0
+IsReady None shelf words = ⊥
+IsReady (Some Check) shelf words = IsAccepted shelf (name_of words)
+IsReady (Some Print) shelf words = IsAccepted shelf (name_of words)
+IsReady (Some (Make grid)) shelf words = Unit {0}
+IsReady (Some (Survey grid queries)) shelf words = Unit {0}
+IsReady (Some Answer) shelf words = IsAccepted shelf (name_of words)
+IsReady (Some Recheck) shelf words = IsAccepted shelf (name_of words) × IsThere shelf (other_name_of words)
 
 pub record HasFault (told : Told) (name : List ℕ) (fault : GraphFault) : Type 0 where
   pub bytes : List ℕ

@@ -34,6 +34,7 @@ pub record IsGivenPrefix (IsText : List ℕ → Type 0) (out now : List ℕ) : T
 
 abbrev pub GivesText : (List ℕ → Type 0) → List ℕ → List ℕ → Status → Type 0
 GivesText IsText out now the.Done = IsGiven IsText out now
+GivesText IsText out now (the.CheckedNo fault) = ⊥
 GivesText IsText out now the.Usage = ⊥
 GivesText IsText out now (the.GraphRefused fault) = ⊥
 GivesText IsText out now the.ReadFault = now ≡ out
@@ -43,6 +44,7 @@ GivesText IsText out now the.InputLong = ⊥
 
 abbrev pub Refuses : GraphFault → Status → Type 0
 Refuses fault the.Done = ⊥
+Refuses fault (the.CheckedNo other) = ⊥
 Refuses fault the.Usage = ⊥
 Refuses fault (the.GraphRefused found) = found ≡ fault
 Refuses fault the.ReadFault = Unit {0}

@@ -1,5 +1,6 @@
 pub mod Words
 pub mod Giving
+pub mod Checking
 pub mod Grids
 pub mod Asking
 pub mod Serving

@@ -34,7 +34,7 @@ use Rattle.desk_core.specs.States.{State, at_start}
 use Rattle.desk_core.specs.Replies.{IsStep}
 use Rattle.desk_core.specs.Runs.{Turn, IsRun}
 use Rattle.route_server.specs.declared.status.Status.{Status}
-use Rattle.route_server.specs.declared.status.Status.TheVariants.{Done, Usage, GraphRefused, ReadFault, WriteFault, NoMemory, InputLong}
+use Rattle.route_server.specs.declared.status.Status.TheVariants.{Done, CheckedNo, Usage, GraphRefused, ReadFault, WriteFault, NoMemory, InputLong}
 use Rattle.route_server.specs.Asking.{asked_in, lines_within, most_input, NoQuit}
 
 abbrev pub opening : State
@@ -118,6 +118,7 @@ pub record IsStarved (g : Graph) (text rest out now : List ℕ) : Type 0 where
 
 abbrev pub Stops : Graph → List ℕ → List ℕ → List ℕ → List ℕ → Status → Type 0
 Stops g text rest out now Done = IsDone g text rest out now
+Stops g text rest out now (CheckedNo fault) = ⊥
 Stops g text rest out now Usage = ⊥
 Stops g text rest out now (GraphRefused fault) = ⊥
 Stops g text rest out now ReadFault = IsCut g text rest out now

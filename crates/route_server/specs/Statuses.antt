@@ -3,11 +3,13 @@
 --   status_text status     what it says, which the program writes after `road: ` where the work wasn't done
 use Rattle.std.specs.Prelude.{ℕ, List, ◌++◌, codes, decimal}
 use Rattle.dimacs_reader.specs.Messages.{kind_word}
+use Rattle.certificate_text.specs.Messages.{fault_word}
 use Rattle.route_server.specs.declared.status.Status.{Status}
-use Rattle.route_server.specs.declared.status.Status.TheVariants.{Done, Usage, GraphRefused, ReadFault, WriteFault, NoMemory, InputLong}
+use Rattle.route_server.specs.declared.status.Status.TheVariants.{Done, CheckedNo, Usage, GraphRefused, ReadFault, WriteFault, NoMemory, InputLong}
 
 abbrev pub status_number : Status → ℕ
 status_number Done = 0
+status_number (CheckedNo fault) = 1
 status_number Usage = 2
 status_number (GraphRefused fault) = 3
 status_number ReadFault = 4
@@ -17,6 +19,7 @@ status_number InputLong = 7
 
 abbrev pub status_text : Status → List ℕ
 status_text Done = codes "done"
+status_text (CheckedNo fault) = codes "certificate refused at line " ++ (decimal fault.line ++ (codes ": " ++ fault_word fault.kind))
 status_text Usage = codes "usage"
 status_text (GraphRefused fault) = codes "graph refused at line " ++ (decimal fault.line ++ (codes ": " ++ kind_word fault.kind))
 status_text ReadFault = codes "read fault"

@@ -1,6 +1,7 @@
 //! The command that answers requests.
 
 ghost use Rattle.std.specs.Prelude.{◌≡◌, ◌≢◌, ◌≤◌, ◌⊎◌, IfSome};
+ghost use Rattle.certificate_text.specs.declared.fault.CertFault.{CertFault};
 ghost use Rattle.road_io.specs.Told.{IfTold};
 ghost use Rattle.road_io.specs.Count.{HasRisen};
 ghost use Rattle.road_io.specs.Shelf.{with_name};
@@ -28,6 +29,7 @@ pub fn answer<F: Shelf, S: Source, K: Sink>(
         IfTold (K.written output.old) (K.written output.new) (λ out now.
         AnswersFile (told.files name.now) text rest out now result))) }
     ensures known { result ≡ Status.Usage → ⊥ }
+    ensures unchecked { (fault : CertFault) → result ≡ Status.CheckedNo fault → ⊥ }
     ensures refused { (fault : GraphFault) → result ≡ Status.GraphRefused fault →
         IfSome (F.left shelf.old) (λ told. HasFault told name.now fault) }
     ensures first_fault { result ≡ Status.ReadFault → IfSome (F.left shelf.old) (λ told.

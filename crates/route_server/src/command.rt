@@ -5,7 +5,9 @@ ghost use Rattle.road_io.specs.Told.{IfTold};
 ghost use Rattle.road_io.specs.Count.{HasRisen};
 ghost use Rattle.road_io.specs.Shelf.{with_name};
 ghost use Rattle.dimacs_reader.specs.declared.fault.GraphFault.{GraphFault};
-ghost use Rattle.route_server.specs.Words.{command_of, name_of};
+ghost use Rattle.certificate_text.specs.declared.fault.CertFault.{CertFault};
+ghost use Rattle.route_server.specs.Words.{command_of, name_of, other_name_of};
+ghost use Rattle.route_server.specs.Checking.{SaysFile};
 ghost use Rattle.route_server.specs.Answer.{AnswersFile};
 ghost use Rattle.route_server.specs.Giving.{GivesText, GivesOf, IsCheck, IsPrint};
 ghost use Rattle.route_server.specs.Grids.{IsMade, IsSurveyed};
@@ -14,10 +16,11 @@ ghost use Rattle.route_server.specs.declared.words.Command.TheVariants as comman
 ghost use Rattle.route_server.specs.declared.words.Grid.{Grid as Made};
 
 use crate::answer::answer;
+use crate::certificates::recheck_named;
 use crate::graphs::{check, print};
 use crate::grids::{make, survey};
 use crate::status::Status;
-use crate::words::{Command, graph_name, read_command};
+use crate::words::{Command, graph_name, other_name, read_command};
 use road_io::{Shelf, Sink, Source};
 use std::alloc::Global;
 use std::thread::Threads;
@@ -63,11 +66,22 @@ pub fn run<R: Threads + Sync, F: Shelf, S: Source, K: Sink>(
         IfTold (K.written output.old) (K.written output.new) (λ out now.
         AnswersFile (told.files (name_of (map (λ w. string_bytes w) words.now))) text rest out now result))) }
 
+    ensures recheck { command_of (map (λ w. string_bytes w) words.now) ≡ Some command.Recheck →
+        IfSome (F.left shelf.old) (λ told.
+        IfTold (K.written output.old) (K.written output.new) (λ out now.
+        SaysFile (told.files (name_of (map (λ w. string_bytes w) words.now)))
+        (told.files (other_name_of (map (λ w. string_bytes w) words.now))) out now result)) }
+
     // What the command has no use for stays as it is: no call was made of it.
     ensures unread { command_of (map (λ w. string_bytes w) words.now) ≢ Some command.Answer → input.new ≡ input.old }
     ensures unpicked { (HasFile (command_of (map (λ w. string_bytes w) words.now)) → ⊥) → shelf.new ≡ shelf.old }
     ensures named { HasFile (command_of (map (λ w. string_bytes w) words.now)) →
+        command_of (map (λ w. string_bytes w) words.now) ≢ Some command.Recheck →
         F.picked shelf.new ≡ with_name (name_of (map (λ w. string_bytes w) words.now)) (F.picked shelf.old) }
+    ensures named_both { command_of (map (λ w. string_bytes w) words.now) ≡ Some command.Recheck →
+        (F.picked shelf.new ≡ with_name (name_of (map (λ w. string_bytes w) words.now)) (F.picked shelf.old))
+        ⊎ (F.picked shelf.new ≡ with_name (other_name_of (map (λ w. string_bytes w) words.now))
+        (with_name (name_of (map (λ w. string_bytes w) words.now)) (F.picked shelf.old))) }
     ensures unwritten { IsRefusal result → output.new ≡ output.old }
     ensures ungiven { command_of (map (λ w. string_bytes w) words.now) ≢ Some command.Answer → IsEarly result →
         output.new ≡ output.old }
@@ -75,16 +89,19 @@ pub fn run<R: Threads + Sync, F: Shelf, S: Source, K: Sink>(
     ensures unstarted_input { F.faults shelf.new ≢ F.faults shelf.old → input.new ≡ input.old }
 
     // Why it ends, whatever stands written.
+    ensures checked_alone { (fault : CertFault) → result ≡ Status.CheckedNo fault →
+        command_of (map (λ w. string_bytes w) words.now) ≡ Some command.Recheck }
     ensures refused_alone { (fault : GraphFault) → result ≡ Status.GraphRefused fault → HasFile (command_of (map (λ w. string_bytes w) words.now)) }
     ensures refused { (fault : GraphFault) → result ≡ Status.GraphRefused fault →
         IfSome (F.left shelf.old) (λ told. HasFault told (name_of (map (λ w. string_bytes w) words.now)) fault) }
     ensures first_fault { result ≡ Status.ReadFault → IfSome (F.left shelf.old) (λ told.
         IsUnjudged told (name_of (map (λ w. string_bytes w) words.now)) (F.left shelf.new)
         ⊎ (IsAccepted (F.left shelf.old) (name_of (map (λ w. string_bytes w) words.now))
-        × HasRisen (S.faults input.old) (S.faults input.new))) }
+        × (HasRisen (S.faults input.old) (S.faults input.new)
+        ⊎ (command_of (map (λ w. string_bytes w) words.now) ≡ Some command.Recheck)))) }
     ensures answers_alone { result ≡ Status.InputLong → command_of (map (λ w. string_bytes w) words.now) ≡ Some command.Answer }
     ensures long { result ≡ Status.InputLong → IfTold (S.left input.old) (S.left input.new) (λ text rest. IsLong text) }
-    ensures complete { IsReady (command_of (map (λ w. string_bytes w) words.now)) (F.left shelf.old) (name_of (map (λ w. string_bytes w) words.now)) →
+    ensures complete { IsReady (command_of (map (λ w. string_bytes w) words.now)) (F.left shelf.old) (map (λ w. string_bytes w) words.now) →
         (HasRisen (F.faults shelf.old) (F.faults shelf.new) → ⊥) →
         (HasRisen (S.faults input.old) (S.faults input.new) → ⊥) →
         (HasRisen (K.faults output.old) (K.faults output.new) → ⊥) → IsWhole result }
@@ -110,5 +127,6 @@ pub fn run<R: Threads + Sync, F: Shelf, S: Source, K: Sink>(
         Command::Make(grid) => make(alloc, grid, output),
         Command::Survey(grid, queries) => survey(alloc, grid, queries, output),
         Command::Answer => answer(alloc, name, shelf, input, output),
+        Command::Recheck => recheck_named(alloc, name, other_name(words), shelf, output),
     }
 }

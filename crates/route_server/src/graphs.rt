@@ -1,6 +1,7 @@
 //! The commands that say what a graph file holds.
 
 ghost use Rattle.std.specs.Prelude.{◌≡◌, ◌≢◌, ◌≤◌, IfSome};
+ghost use Rattle.certificate_text.specs.declared.fault.CertFault.{CertFault};
 ghost use Rattle.road_io.specs.Told.{IfTold};
 ghost use Rattle.road_io.specs.Count.{HasRisen};
 ghost use Rattle.road_io.specs.Shelf.{with_name};
@@ -43,6 +44,7 @@ pub fn check<F: Shelf, K: Sink>(alloc: Global, name: &str, shelf: &mut F, output
         IfTold (K.written output.old) (K.written output.new) (λ out now.
         GivesOf IsCheck (told.files name.now) out now result)) }
     ensures known { result ≡ Status.Usage → ⊥ }
+    ensures unchecked { (fault : CertFault) → result ≡ Status.CheckedNo fault → ⊥ }
     ensures inside { result ≡ Status.InputLong → ⊥ }
     ensures refused { (fault : GraphFault) → result ≡ Status.GraphRefused fault →
         IfSome (F.left shelf.old) (λ told. HasFault told name.now fault) }
@@ -78,6 +80,7 @@ pub fn print<F: Shelf, K: Sink>(alloc: Global, name: &str, shelf: &mut F, output
         IfTold (K.written output.old) (K.written output.new) (λ out now.
         GivesOf IsPrint (told.files name.now) out now result)) }
     ensures known { result ≡ Status.Usage → ⊥ }
+    ensures unchecked { (fault : CertFault) → result ≡ Status.CheckedNo fault → ⊥ }
     ensures inside { result ≡ Status.InputLong → ⊥ }
     ensures refused { (fault : GraphFault) → result ≡ Status.GraphRefused fault →
         IfSome (F.left shelf.old) (λ told. HasFault told name.now fault) }

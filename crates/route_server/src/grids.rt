@@ -1,6 +1,7 @@
 //! The commands over grids that a generator makes.
 
 ghost use Rattle.std.specs.Prelude.{◌≡◌, ◌≢◌, ◌≤◌};
+ghost use Rattle.certificate_text.specs.declared.fault.CertFault.{CertFault};
 ghost use Rattle.road_io.specs.Told.{IfTold};
 ghost use Rattle.road_io.specs.Count.{HasRisen};
 ghost use Rattle.dimacs_reader.specs.declared.fault.GraphFault.{GraphFault};
@@ -24,6 +25,7 @@ fn write<K: Sink>(graph: &GraphFile, output: &mut K) -> Status
     ensures gives { IfTold (K.written output.old) (K.written output.new) (λ out now.
         GivesText (IsPrint graph.now) out now result) }
     ensures known { result ≡ Status.Usage → ⊥ }
+    ensures unchecked { (fault : CertFault) → result ≡ Status.CheckedNo fault → ⊥ }
     ensures inside { result ≡ Status.InputLong → ⊥ }
     ensures accepted { (fault : GraphFault) → result ≡ Status.GraphRefused fault → ⊥ }
     ensures read { result ≡ Status.ReadFault → ⊥ }
@@ -43,6 +45,7 @@ pub fn make<K: Sink>(alloc: Global, grid: Grid, output: &mut K) -> Status
     ensures gives { IfTold (K.written output.old) (K.written output.new) (λ out now.
         GivesText (IsMade grid) out now result) }
     ensures known { result ≡ Status.Usage → ⊥ }
+    ensures unchecked { (fault : CertFault) → result ≡ Status.CheckedNo fault → ⊥ }
     ensures inside { result ≡ Status.InputLong → ⊥ }
     ensures accepted { (fault : GraphFault) → result ≡ Status.GraphRefused fault → ⊥ }
     ensures read { result ≡ Status.ReadFault → ⊥ }
@@ -66,6 +69,7 @@ pub fn survey<K: Sink>(alloc: Global, grid: Grid, queries: u32, output: &mut K) 
     ensures gives { IfTold (K.written output.old) (K.written output.new) (λ out now.
         GivesText (IsSurveyed grid queries) out now result) }
     ensures known { result ≡ Status.Usage → ⊥ }
+    ensures unchecked { (fault : CertFault) → result ≡ Status.CheckedNo fault → ⊥ }
     ensures inside { result ≡ Status.InputLong → ⊥ }
     ensures accepted { (fault : GraphFault) → result ≡ Status.GraphRefused fault → ⊥ }
     ensures read { result ≡ Status.ReadFault → ⊥ }

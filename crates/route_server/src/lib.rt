@@ -3,6 +3,7 @@
 
 mod answer;
 mod answering;
+mod certificates;
 mod command;
 mod graphs;
 mod grids;

@@ -3,7 +3,7 @@
 ghost use Rattle.std.specs.Prelude.{◌≡◌, ◌≢◌, ◌≤◌, Err, IfSome};
 ghost use Rattle.road_io.specs.Count.{HasRisen};
 ghost use Rattle.road_io.specs.Shelf.{with_name};
-ghost use Rattle.route_server.specs.Loading.{Loads, ends_as};
+ghost use Rattle.route_server.specs.Loading.{KeepsFiles, Loads, ends_as};
 ghost use Rattle.route_server.specs.Causes.{IsUnjudged};
 
 use crate::status::Status;
@@ -19,6 +19,7 @@ pub fn read_named<F: Shelf>(
     shelf: &mut F,
 ) -> Result<GraphFile, GraphError>
     ensures loads { IfSome (F.left shelf.old) (λ told. Loads (told.files name.now) result) }
+    ensures kept { KeepsFiles (F.left shelf.old) (F.left shelf.new) }
     ensures count { F.faults shelf.old ≤ F.faults shelf.new }
     ensures cause { result ≡ Err GraphError.ReadFault → HasRisen (F.faults shelf.old) (F.faults shelf.new) }
     ensures quiet { result ≢ Err GraphError.ReadFault → F.faults shelf.new ≡ F.faults shelf.old }

@@ -1,6 +1,7 @@
 //! The loop over request lines.
 
 ghost use Rattle.std.specs.Prelude.{◌≡◌, ◌≢◌, ◌≤◌, [], false, option_copied};
+ghost use Rattle.certificate_text.specs.declared.fault.CertFault.{CertFault};
 ghost use Rattle.road_io.specs.Told.{IfTold};
 ghost use Rattle.road_io.specs.Count.{HasRisen};
 ghost use Rattle.line_front.specs.Replies.{HasItems};
@@ -96,6 +97,7 @@ pub fn serve<V: Version + Drop, S: Source, K: Sink>(
         IfTold (K.written output.old) (K.written output.new) (λ out now.
         Stops (V.base version) text rest out now result)) }
     ensures known { result ≡ Status.Usage → ⊥ }
+    ensures unchecked { (fault : CertFault) → result ≡ Status.CheckedNo fault → ⊥ }
     ensures unrefused { IsRefusal result → ⊥ }
     ensures long { result ≡ Status.InputLong → IfTold (S.left input.old) (S.left input.new) (λ text rest. IsLong text) }
     ensures complete { (HasRisen (S.faults input.old) (S.faults input.new) → ⊥) →

@@ -1,5 +1,6 @@
 //! How a run ended.
 
+use certificate_text::CertFault;
 use dimacs_reader::GraphFault;
 use std::fmt;
 
@@ -8,11 +9,13 @@ use std::fmt;
 pub enum Status {
     /// The work is whole.
     Done,
+    /// The certificate has this fault, its first, and the line that says so was written.
+    CheckedNo(CertFault),
     /// The words aren't those of a command.
     Usage,
     /// The graph file has this fault, its first.
     GraphRefused(GraphFault),
-    /// A read of the graph file or the input failed.
+    /// A read of a file or the input failed.
     ReadFault,
     /// A write of the output failed.
     WriteFault,
@@ -32,6 +35,7 @@ impl Status {
     {
         match self {
             Status::Done => 0,
+            Status::CheckedNo(_) => 1,
             Status::Usage => 2,
             Status::GraphRefused(_) => 3,
             Status::ReadFault => 4,
@@ -51,6 +55,10 @@ impl fmt::Display for Status {
     fn fmt<W: fmt::Write>(&self, f: &mut fmt::Formatter<W>) -> fmt::Result {
         match self {
             Status::Done => write!(f, "done"),
+            Status::CheckedNo(fault) => {
+                let (line, word) = (fault.line, fault.kind.word());
+                write!(f, "certificate refused at line {line}: {word}")
+            }
             Status::Usage => write!(f, "usage"),
             Status::GraphRefused(fault) => {
                 let (line, word) = (fault.line, fault.kind.word());

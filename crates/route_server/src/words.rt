@@ -3,7 +3,7 @@
 ghost use Rattle.std.specs.Prelude.{◌≡◌, ◌≤◌, IfSome, map, string_bytes};
 ghost use Rattle.grid_maker.specs.Grid.{IsSide};
 ghost use Rattle.road_text.specs.Numbers.{number_of};
-ghost use Rattle.route_server.specs.Words.{beyond_word, command_of, for_file, grid_of, has_dash, make_of, name_of, survey_of, up_to, IsSized};
+ghost use Rattle.route_server.specs.Words.{beyond_word, command_of, for_file, for_files, grid_of, has_dash, make_of, name_of, other_name_of, survey_of, up_to, IsSized};
 
 use road_text::number;
 
@@ -21,7 +21,8 @@ pub struct Grid {
     pub height: u32,
 }
 
-/// What the words ask for. The graph file of `check`, `print` and `answer` is the second word.
+/// What the words ask for. The graph file of `check`, `print`, `answer` and `recheck` is the second word, and the
+/// certificate of `recheck` the third.
 #[derive(Clone, Copy, Debug, PartialEq, Eq)]
 pub enum Command {
     Check,
@@ -30,6 +31,7 @@ pub enum Command {
     /// With the number of queries.
     Survey(Grid, u32),
     Answer,
+    Recheck,
 }
 
 /// Whether a word begins with a dash.
@@ -52,6 +54,21 @@ fn for_file(command: Command, words: &[String]) -> Option<Command>
         return None;
     };
     if has_dash(name.as_bytes()) {
+        return None;
+    }
+    Some(command)
+}
+
+/// The command, where two words follow that may name files.
+fn for_files(command: Command, words: &[String]) -> Option<Command>
+    requires { IsSized command }
+    ensures sized { IfSome result IsSized }
+    ensures command { result ≡ for_files command (map (λ w. string_bytes w) words.now) }
+{
+    let [name, other] = words else {
+        return None;
+    };
+    if has_dash(name.as_bytes()) || has_dash(other.as_bytes()) {
         return None;
     }
     Some(command)
@@ -125,6 +142,9 @@ fn beyond_word(word: &str, words: &[String]) -> Option<Command>
     if word == "answer" {
         return for_file(Command::Answer, words);
     }
+    if word == "recheck" {
+        return for_files(Command::Recheck, words);
+    }
     None
 }
 
@@ -145,6 +165,16 @@ pub fn graph_name(words: &[String]) -> &str
 {
     match words {
         [_, name, ..] => name.as_str(),
+        _ => "",
+    }
+}
+
+/// The third word.
+pub fn other_name(words: &[String]) -> &str
+    ensures { result.now ≡ other_name_of (map (λ w. string_bytes w) words.now) }
+{
+    match words {
+        [_, _, name, ..] => name.as_str(),
         _ => "",
     }
 }

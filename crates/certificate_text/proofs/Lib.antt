@@ -1,0 +1,9 @@
+pub mod PutLemmas
+pub mod TextLemmas
+pub mod WordLemmas
+pub mod DecimalLemmas
+pub mod LineLemmas
+pub mod OrderLemmas
+pub mod RawLemmas
+pub mod RunLemmas
+pub mod ReadLemmas

@@ -1,0 +1,9 @@
+pub mod Texts
+pub mod Words
+pub mod Order
+pub mod RawLines
+pub mod Reading
+pub mod Gathering
+pub mod Messages
+pub mod Parts
+pub mod Putting

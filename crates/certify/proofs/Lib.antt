@@ -1,0 +1,9 @@
+pub mod TreeBlocks
+pub mod RisingLists
+pub mod AllBlocks
+pub mod OwnGrounds
+pub mod StartTrees
+pub mod RoutesPass
+pub mod ReasonsShown
+pub mod ViasPass
+pub mod Certifies

@@ -1,0 +1,14 @@
+pub mod Standing
+pub mod Rows
+pub mod Paths
+pub mod Routes
+pub mod Reasons
+pub mod Tables
+pub mod Lines
+pub mod Checks
+pub mod RowTests
+pub mod Truth
+pub mod Across
+pub mod Runs
+pub mod Steps
+pub mod Nears
