@@ -7,3 +7,13 @@ pub mod RoutesPass
 pub mod ReasonsShown
 pub mod ViasPass
 pub mod Certifies
+pub mod TreeRows
+pub mod RootTrees
+pub mod RouteStarts
+pub mod StartRuns
+pub mod FewPlaces
+pub mod TestedPaths
+pub mod NamedPaths
+pub mod ClassLemmas
+pub mod ViaLines
+pub mod MadeLines

@@ -1,1 +1,6 @@
 pub mod Written
+pub mod Blocks
+pub mod Starts
+pub mod Reasons
+pub mod Classes
+pub mod Making

@@ -38,7 +38,6 @@ use Rattle.certificate_text.specs.declared.certificate.CertRoute.{CertRoute}
 use Rattle.certificate_text.specs.declared.certificate.Reason.{Reason}
 use Rattle.certificate_text.specs.declared.certificate.Reason.TheVariants as reason
 use Rattle.certificate_text.specs.declared.certificate.ViaRow.{ViaRow}
-use Rattle.certificate_text.specs.declared.certificate.Finding.{Finding}
 use Rattle.certificate_text.specs.declared.certificate.Finding.TheVariants as finding
 use Rattle.certificate_text.specs.declared.certificate.Certificate.{Certificate}
 use Rattle.recheck.specs.Rows.{toward, HasRow}
