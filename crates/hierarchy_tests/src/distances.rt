@@ -12,7 +12,7 @@ use std::alloc::Global;
 use std::process::Abort;
 use std::sync::Arc;
 use std::test::Fail;
-use worked_graphs::{Arcs, star_of, vertex_of};
+use worked_graphs::{A, Arcs, star_of, vertex_of};
 
 /// Six vertices with one-way, parallel and longer arcs, and a loop; nothing leads to 5.
 pub const MIXED: Arcs = &[
@@ -146,6 +146,8 @@ fn answers_both_ways<R: Abort>(
 fn answers_the_same_in_a_list_and_in_a_memory_that_is_kept(rt: HostRuntime) -> Result<(), Fail> {
     let a = rt.alloc();
     let memory = ClimbMemory::new(a);
+    let worked = star_of(a, 6, A)?;
+    let memory = answers_both_ways(&rt, a, memory, &worked, 1, &[6, 5], &[Some(20), None])?;
     let wanted = [Some(7), None, Some(7), Some(10), Some(0), None];
     let mixed = star_of(a, 6, MIXED)?;
     let memory = answers_both_ways(&rt, a, memory, &mixed, 2, &[4, 5, 4, 6, 2, 1], &wanted)?;
