@@ -1,10 +1,13 @@
 #!/usr/bin/env python3
-"""Compares `road recheck` with the checks of a certificate, computed plainly (plain_certificates.py), on random small graphs.
+"""Compares `road certify` and `road recheck` with certificates written and checked plainly (plain_certificates.py), on random
+small graphs.
 
-For each graph a query's certificate is written plainly, which has to be accepted. Then it is changed at random: a line left
-out, doubled, or swapped with the next, a cut at any byte, bytes after the end, a number raised or lowered by one, replaced
-by another of the certificate, by 0, by the greatest, or given a leading zero. The program has to say the same of each: yes
-with the count, or no with the line and the word. It ends with 1 where it doesn't, and leaves that case in bench/out.
+For each graph a query's certificate with the usual ratios is written by both, byte for byte the same, or refused where an
+end isn't a vertex. Another, with ratios drawn from a few, is written plainly, which has to be accepted. Then it is changed
+at random: a line left out, doubled, or swapped with the next, a cut at any byte, bytes after the end, a number raised or
+lowered by one, replaced by another of the certificate, by 0, by the greatest, or given a leading zero. The program has to
+say the same of each: yes with the count, or no with the line and the word. It ends with 1 where it doesn't, and leaves that
+case in bench/out.
 """
 import collections
 import random
@@ -16,7 +19,8 @@ import plain_certificates
 import program
 import random_cases
 
-RATIOS = [((4, 5), (1, 4), (1, 4)), ((1, 1), (0, 1), (4, 1)), ((1, 1), (0, 1), (1, 1)), ((0, 1), (1, 1), (0, 1))]
+USUAL = ((4, 5), (1, 4), (1, 4))
+RATIOS = [USUAL, ((1, 1), (0, 1), (4, 1)), ((1, 1), (0, 1), (1, 1)), ((0, 1), (1, 1), (0, 1))]
 GREATEST = 10**19 - 1
 
 
@@ -70,6 +74,17 @@ def demand_same(graph_file, graph, text, tally, case):
     tally[said.split()[-1] if wanted else "yes"] += 1
 
 
+def demand_written(graph_file, graph, source, target, case):
+    """The certificate that the program writes, which has to be the one that is written plainly."""
+    status, output = program.run([program.built(), "certify", graph_file, str(source), str(target)])
+    inside = all(1 <= vertex <= graph.vertices for vertex in (source, target))
+    wanted = plain_certificates.certificate(graph, source, target, *USUAL) if inside else b""
+    if status != (0 if inside else 8) or output != wanted:
+        program.save("case.cert", output)
+        print("%s, from %d to %d: another certificate is written, with status %d, and is in bench/out" % (case, source, target, status))
+        sys.exit(1)
+
+
 def main():
     words = program.parser(__doc__)
     words.add_argument("cases", nargs="?", type=int, default=100)
@@ -80,12 +95,14 @@ def main():
     tally = collections.Counter()
     for case in range(given.cases):
         graph = random_cases.random_graph(chance)
+        graph_file = program.save("case.gr", plain.graph_text(graph))
+        name = "case %d of seed %d" % (case, given.seed)
+        demand_written(graph_file, graph, chance.randint(0, graph.vertices + 1), chance.randint(0, graph.vertices + 1), name)
         if graph.vertices == 0:
             continue
         source, target = chance.randint(1, graph.vertices), chance.randint(1, graph.vertices)
+        demand_written(graph_file, graph, source, target, name)
         text = plain_certificates.certificate(graph, source, target, *chance.choice(RATIOS))
-        graph_file = program.save("case.gr", plain.graph_text(graph))
-        name = "case %d of seed %d" % (case, given.seed)
         if not plain_certificates.answer(graph, text).startswith("yes"):
             sys.exit("%s: what is written plainly isn't accepted plainly" % name)
         demand_same(graph_file, graph, text, tally, name)

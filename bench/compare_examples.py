@@ -4,7 +4,8 @@
 For each examples/NAME.requests the program answers over examples/NAME.gr, and has to write examples/NAME.replies, and so
 have the definitions (plain.py), from which the stored replies are. README shows the replies to small.requests, and each
 of its blocks with lines `> REQUEST` is a run over small.gr, which is held to the definitions. The certificate small.cert is
-the one by the definitions, docs/certificates.md shows it, and the program accepts it. It ends with 1 where a byte differs.
+the one by the definitions, docs/certificates.md shows it, and the program writes and accepts it. It ends with 1 where a byte
+differs.
 """
 import glob
 import os
@@ -51,6 +52,10 @@ def main():
     demand("small.cert, by the definitions", plain_certificates.certificate(small, 1, 6), read(certificate))
     shown = re.search(rb"^```\n( 1 cert.*?)^```$", read(os.path.join(program.TOP, "docs", "certificates.md")), re.M | re.S)
     demand("docs/certificates.md", re.sub(rb"^.{3}", b"", shown[1], flags=re.M), read(certificate))
+    status, output = program.road("certify", os.path.join(program.TOP, "examples", "small.gr"), "1", "6")
+    demand("small.cert, written", b"%sstatus %d" % (output, status), read(certificate) + b"status 0")
+    backwards = re.search(rb"^    \$ bin/road certify examples/small.gr 6 1\n((?:    .*\n)*)", readme, re.M)
+    demand("README, certify", plain_certificates.certificate(small, 6, 1), re.sub(rb"^    ", b"", backwards[1], flags=re.M))
     status, output = program.road("recheck", os.path.join(program.TOP, "examples", "small.gr"), certificate)
     demand("small.cert", b"%sstatus %d" % (output, status), b"yes 2\nstatus 0")
     print("%d examples, %d blocks of README: the same bytes" % (len(examples), len(blocks)))

@@ -32,7 +32,7 @@ void *realloc(void *place, size_t size) { return fails() ? NULL : __libc_realloc
 """
 GRAPH = os.path.join(program.TOP, "examples", "small.gr")
 REQUESTS = os.path.join(program.TOP, "examples", "small.requests")
-COMMANDS = [["check", GRAPH], ["print", GRAPH], ["make", "7", "6", "6"], ["survey", "7", "6", "6", "5"], ["answer", GRAPH]]
+COMMANDS = [["check", GRAPH], ["print", GRAPH], ["make", "7", "6", "6"], ["survey", "7", "6", "6", "5"], ["answer", GRAPH], ["certify", GRAPH, "1", "6"]]
 REFUSED = (6, b"road: out of memory\n")
 
 

@@ -3,8 +3,9 @@
 
 The network gets one more vertex, which no arc leads to. The certificate says that no path leads there from vertex 1: one block
 with a row for each vertex that is reached, found plainly. So it measures reading, and the checks on rows, but none on
-routes or vias. Times are those of the quickest round, less that of `check` of the same graph file, so the laying out of the
-graph is among them; the spread is the greatest by the least. Memory is the peak of the resident set, with the graph's own.
+routes or vias. Times are those of the quickest round, less that of an empty certificate over the same graph, for which the
+graph is read and laid out; the spread is the greatest by the least. Memory is the peak of the resident set, with the graph's
+own.
 """
 import heapq
 import os
@@ -51,11 +52,11 @@ def main():
         lines += ["row %d %d %d" % row for row in rows(vertices, arcs)] + ["end", "none", "done"]
         text = "".join(line + "\n" for line in lines).encode()
         file = program.save("recheck.cert", text)
-        check = [program.built(), "check", graph]
+        empty = [program.built(), "recheck", graph, program.save("empty.cert", b"")]
         recheck = [program.built(), "recheck", graph, file]
         if program.run(recheck, check=True)[1] != b"yes 0\n":
             raise SystemExit("the certificate isn't accepted")
-        reading = min(figures.seconds(check, b"") for _round in range(given.rounds))
+        reading = min(figures.seconds(empty, b"", False) for _round in range(given.rounds))
         times = [figures.seconds(recheck, b"") for _round in range(given.rounds)]
         took = min(times) - reading
         megabytes = len(text) / 1e6

@@ -18,6 +18,8 @@ use Rattle.road_model.specs.Graph.{Graph, arc_at, arc_count}
 use Rattle.road_model.specs.Changes.{with_row, changed, after, after_all}
 use Rattle.road_model.specs.Answers.{IsAnswer}
 use Rattle.road_model.specs.Queries.{query_of}
+use Rattle.road_model.specs.declared.graph_file.TheConstants.{MAX_LENGTH}
+use Rattle.road_model.specs.declared.planner.TheConstants.{LAST_VERSION}
 use Rattle.desk_core.specs.declared.refusals.Limits.{Limits}
 use Rattle.desk_core.specs.declared.refusals.Asked.{Asked}
 use Rattle.desk_core.specs.declared.refusals.Asked.TheVariants as asked
@@ -114,9 +116,9 @@ page_is_pinned number g desk (the.Why p via since) version size offset q e n =
 page_is_pinned number g desk the.Version version size offset q e n =
     let f : ◌≡◌ {A = Result Asked ErrorKind} (Ok asked.Version) (Ok (asked.Page version q size offset)) = e in cc
 page_is_pinned number g desk (the.Length arc long) version size offset q e n =
-    let is : asked.Length (record { arc = arc; length = long }) ≡ asked.Page version q size offset = passed_ok ((not (is_within 1 (arc_count g) arc), error.ArcRange) ∷ (not (is_within 1 4294967295 long), error.LengthRange) ∷ []) (asked.Length (record { arc = arc; length = long })) (asked.Page version q size offset) e in cc
+    let is : asked.Length (record { arc = arc; length = long }) ≡ asked.Page version q size offset = passed_ok ((not (is_within 1 (arc_count g) arc), error.ArcRange) ∷ (not (is_within 1 MAX_LENGTH long), error.LengthRange) ∷ []) (asked.Length (record { arc = arc; length = long })) (asked.Page version q size offset) e in cc
 page_is_pinned number g desk the.Publish version size offset q e n =
-    let is : asked.Publish ≡ asked.Page version q size offset = passed_ok ((number == 1048576, error.Full) ∷ []) asked.Publish (asked.Page version q size offset) e in cc
+    let is : asked.Publish ≡ asked.Page version q size offset = passed_ok ((number == LAST_VERSION, error.Full) ∷ []) asked.Publish (asked.Page version q size offset) e in cc
 page_is_pinned number g desk the.Quit version size offset q e n =
     let f : ◌≡◌ {A = Result Asked ErrorKind} (Ok asked.Quit) (Ok (asked.Page version q size offset)) = e in cc
 

@@ -6,7 +6,7 @@
 --   behind    the version that was asked for isn't newer than the pinned one
 --   gone      a cursor's version is the pinned one, or its answer is kept
 --   arc       the arc is one of the graph's
---   length    the length is 1 to 4294967295
+--   length    the length is 1 to MAX_LENGTH
 --   full      the version isn't the last that there may be
 --   is_within low high n   n is one of the numbers from low to high
 --   are_vertices limits vs   each of these is a vertex of the graph
@@ -27,6 +27,8 @@ use Rattle.road_model.specs.declared.request.Cursor.{Cursor}
 use Rattle.road_model.specs.declared.request.CursorQuery.{CursorQuery}
 use Rattle.road_model.specs.Graph.{IsVertex}
 use Rattle.road_model.specs.Queries.{query_of}
+use Rattle.road_model.specs.declared.graph_file.TheConstants.{MAX_LENGTH}
+use Rattle.road_model.specs.declared.planner.TheConstants.{LAST_VERSION}
 use Rattle.desk_core.specs.declared.refusals.Limits.{Limits}
 use Rattle.desk_core.specs.declared.refusals.Asked.{Asked}
 use Rattle.desk_core.specs.declared.refusals.Asked.TheVariants as asked
@@ -88,11 +90,11 @@ outcome limits (the.Why q via since) = passed (why_tests limits q via since) (as
 outcome limits the.Version = Ok asked.Version
 outcome limits (the.Length arc length) = passed (
     (not (is_within 1 limits.arcs arc), error.ArcRange)
-    ∷ (not (is_within 1 4294967295 length), error.LengthRange)
+    ∷ (not (is_within 1 MAX_LENGTH length), error.LengthRange)
     ∷ [])
     (asked.Length (record { arc = arc; length = length }))
 outcome limits the.Publish = passed (
-    (limits.number == 1048576, error.Full)
+    (limits.number == LAST_VERSION, error.Full)
     ∷ [])
     asked.Publish
 outcome limits the.Quit = Ok asked.Quit

@@ -10,6 +10,7 @@ use crate::event::Outcome;
 use road_model::{NoMemory, Pinned, Plan, Planner, Reply, Request};
 use std::alloc::Global;
 use std::sync::Arc;
+use std::thread::Threads;
 
 /// How many plans the desk of a caller keeps.
 const KEPT: u32 = 8;
@@ -54,8 +55,9 @@ impl Caller {
 
     /// Asks the desk over a version, which is what the caller has seen from then on. An `Err` comes after the reply,
     /// where the plan of a page has as many owners as there may be.
-    pub fn ask<P: Planner>(
+    pub fn ask<R: Threads + Sync, P: Planner>(
         &mut self,
+        rt: &R,
         alloc: Global,
         work: &mut P::Work,
         pinned: &Pinned<P>,
@@ -66,7 +68,7 @@ impl Caller {
         ensures err { OnErr result (WasAsked (P.version pinned.now) (P.graph pinned.now) self.old request.now self.new) }
     {
         self.seen = pinned.number();
-        let reply = self.desk.handle(alloc, work, pinned, request);
+        let reply = self.desk.handle(rt, alloc, work, pinned, request);
         let shown = plan_of(&self.desk, &reply)?;
         Ok(Outcome::Reply { reply, shown })
     }

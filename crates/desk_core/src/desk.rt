@@ -16,6 +16,7 @@ use std::alloc::Global;
 use std::marker::Model;
 use std::num::NonZeroUsize;
 use std::sync::Arc;
+use std::thread::Threads;
 
 /// Answers requests, and keeps the plans of the last pages. To a clause it is a `DeskState`.
 ///
@@ -125,8 +126,9 @@ impl Desk {
     }
 
     /// Makes the plan of this key the last used. One that isn't kept is made in the pinned version.
-    fn bring<P: Planner>(
+    fn bring<R: Threads + Sync, P: Planner>(
         &mut self,
+        rt: &R,
         alloc: Global,
         work: &mut P::Work,
         pinned: &Pinned<P>,
@@ -147,13 +149,14 @@ impl Desk {
         if self.promote(&key) {
             return Ok(());
         }
-        let plan = pinned.prepared().plan(alloc, work, query)?;
+        let plan = pinned.prepared().plan(rt, alloc, work, query)?;
         self.put(alloc, key, plan)
     }
 
     /// Answers what is asked.
-    fn answered<P: Planner>(
+    fn answered<R: Threads + Sync, P: Planner>(
         &mut self,
+        rt: &R,
         alloc: Global,
         work: &mut P::Work,
         pinned: &Pinned<P>,
@@ -171,7 +174,7 @@ impl Desk {
         let version = pinned.prepared();
         match asked {
             Asked::Best { from, to } => {
-                Ok(best_reply(number, version.best(alloc, work, *from, *to)?))
+                Ok(best_reply(number, version.best(rt, alloc, work, *from, *to)?))
             }
             Asked::Page {
                 number,
@@ -179,14 +182,14 @@ impl Desk {
                 size,
                 offset,
             } => {
-                self.bring(alloc, work, pinned, *number, query)?;
+                self.bring(rt, alloc, work, pinned, *number, query)?;
                 let Some(plan) = self.shown() else {
                     unreachable!()
                 };
                 Ok(page_reply(*number, query, *size, *offset, plan))
             }
             Asked::Why { query, via } => {
-                let found = version.verdict(alloc, work, query, *via)?;
+                let found = version.verdict(rt, alloc, work, query, *via)?;
                 Ok(why_reply(number, *via, found))
             }
             Asked::Version => Ok(Reply::Version { number }),
@@ -199,8 +202,9 @@ impl Desk {
     ///
     /// A page of a kept plan, in whichever version, takes no memory and makes no search. Any other takes those of a
     /// plan.
-    pub fn handle<P: Planner>(
+    pub fn handle<R: Threads + Sync, P: Planner>(
         &mut self,
+        rt: &R,
         alloc: Global,
         work: &mut P::Work,
         pinned: &Pinned<P>,
@@ -215,7 +219,7 @@ impl Desk {
     {
         let limits = self.limits(pinned, request);
         match tested(&limits, request) {
-            Ok(asked) => match self.answered(alloc, work, pinned, &asked) {
+            Ok(asked) => match self.answered(rt, alloc, work, pinned, &asked) {
                 Ok(reply) => reply,
                 Err(_) => Reply::Error(ErrorKind::Memory),
             },

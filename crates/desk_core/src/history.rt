@@ -9,6 +9,7 @@ use std::alloc::Global;
 use std::marker::Model;
 use std::mem::replace;
 use std::sync::Arc;
+use std::thread::Threads;
 
 /// The versions of a graph, each of which is kept. To a clause it is a `History`.
 #[derive(Drop)]
@@ -60,13 +61,18 @@ impl<V: Version + Drop> Versions<V> {
     }
 
     /// Makes a new version of the newest. An `Err` leaves the versions as they were.
-    pub fn publish(&mut self, alloc: Global, changes: &[Change]) -> Result<(), ChangeFault>
+    pub fn publish<R: Threads + Sync>(
+        &mut self,
+        rt: &R,
+        alloc: Global,
+        changes: &[Change],
+    ) -> Result<(), ChangeFault>
         ensures grown { OnOk result (self.new ≡ grown self.old changes.now) }
         ensures accepted { OnOk result (fault_in self.old changes.now ≡ None) }
         ensures refused { IfErr result (IsRefusedAs (fault_in self.old changes.now)) }
         ensures stays { OnErr result (self.new ≡ self.old) }
     {
-        let next = self.newest.prepared().after(alloc, changes)?;
+        let next = self.newest.prepared().after(rt, alloc, changes)?;
         let next = Pinned::of(Arc::new(alloc, next)?);
         self.older.reserve(1)?;
         let before = replace(&mut self.newest, next);

@@ -6,14 +6,12 @@ ghost use Rattle.desk_core.specs.Refusals.{outcome, is_newer, is_within, AreEnds
 ghost use Rattle.desk_core.specs.Outcomes.{query_in, ratio_in, vertex_in, IsOutcome};
 
 use road_model::{
-    ArcNo, Change, Cursor, CursorQuery, ErrorKind, MAX_LENGTH, Query, Ratio, Request, Vertex,
+    ArcNo, Change, Cursor, CursorQuery, ErrorKind, LAST_VERSION, MAX_LENGTH, Query, Ratio, Request,
+    Vertex,
 };
 
 /// The most items that a page may have.
 const MAX_SIZE: u64 = 64;
-
-/// The number of the last version that there may be.
-const LAST_VERSION: u64 = 1048576;
 
 /// What a request is tested against.
 #[derive(Clone, Copy, Debug, PartialEq, Eq)]

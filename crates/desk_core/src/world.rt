@@ -14,6 +14,7 @@ use crate::history::Versions;
 use road_model::{Change, ChangeFault, NoMemory, Request, Version};
 use std::alloc::{AllocError, Global};
 use std::marker::Model;
+use std::thread::Threads;
 
 /// Versions of a graph, and callers with their desks. To a clause it is a `WorldState`.
 #[derive(Drop)]
@@ -46,8 +47,9 @@ impl<V: Version + Drop> World<V> {
     }
 
     /// Asks a caller's desk over a version.
-    fn ask(
+    fn ask<R: Threads + Sync>(
         &mut self,
+        rt: &R,
         alloc: Global,
         work: &mut V::Work,
         caller: u32,
@@ -65,15 +67,20 @@ impl<V: Version + Drop> World<V> {
         if version < seen || newest < version {
             return Ok(Outcome::NotAllowed { seen, newest });
         }
-        caller.ask(alloc, work, self.versions.at(version), request)
+        caller.ask(rt, alloc, work, self.versions.at(version), request)
     }
 
     /// Makes a new version of the newest.
-    fn publish(&mut self, alloc: Global, changes: &[Change]) -> Result<Outcome, NoMemory>
+    fn publish<R: Threads + Sync>(
+        &mut self,
+        rt: &R,
+        alloc: Global,
+        changes: &[Change],
+    ) -> Result<Outcome, NoMemory>
         ensures ok { IfOk result (λ o. IsEventStep self.old (event.Publish changes.now) o self.new) }
         ensures err { OnErr result (self.new ≡ self.old) }
     {
-        match self.versions.publish(alloc, changes) {
+        match self.versions.publish(rt, alloc, changes) {
             Ok(()) => Ok(Outcome::Published {
                 number: self.versions.newest(),
             }),
@@ -100,8 +107,9 @@ impl<V: Version + Drop> World<V> {
     }
 
     /// Lets an event happen. An `Err` comes before anything has changed, or after all of it has.
-    fn step(
+    fn step<R: Threads + Sync>(
         &mut self,
+        rt: &R,
         alloc: Global,
         work: &mut V::Work,
         event: &Event,
@@ -115,8 +123,8 @@ impl<V: Version + Drop> World<V> {
                 caller,
                 version,
                 request,
-            } => self.ask(alloc, work, *caller, *version, request),
-            Event::Publish { changes } => self.publish(alloc, changes.as_slice()),
+            } => self.ask(rt, alloc, work, *caller, *version, request),
+            Event::Publish { changes } => self.publish(rt, alloc, changes.as_slice()),
             Event::Tell { caller, version } => Ok(self.tell(*caller, *version)),
         }
     }
@@ -137,7 +145,8 @@ fn new_callers(alloc: Global, callers: u32) -> Result<Vec<Caller>, NoMemory>
 ///
 /// A request that its desk answers `Memory` is answered. An `Err` ends the events: the world is as after the first so
 /// many of them, and it isn't told how many.
-pub fn run_desks<V: Version + Drop>(
+pub fn run_desks<R: Threads + Sync, V: Version + Drop>(
+    rt: &R,
     alloc: Global,
     world: &mut World<V>,
     work: &mut V::Work,
@@ -150,7 +159,7 @@ pub fn run_desks<V: Version + Drop>(
 {
     let mut outcomes = OutcomeList::new(alloc);
     for event in events {
-        outcomes.push(world.step(alloc, work, event)?)?;
+        outcomes.push(world.step(rt, alloc, work, event)?)?;
     }
     Ok(outcomes)
 }

@@ -11,11 +11,12 @@ ghost use Rattle.grid_survey.specs.Counting.{Counts, HasRoom};
 ghost use Rattle.grid_survey.specs.Summary.{IsSurvey};
 
 use crate::queries::{answer_all, sum_of_lengths};
-use forward_star::Star;
 use grid_maker::{MakeFault, make};
 pub use printing::put_summary;
 use road_model::Plan;
+use route_engine::Prepared;
 use std::alloc::Global;
+use std::thread::Threads;
 
 /// What a survey counts. Lengths are in the graph's whole units.
 #[derive(Clone, Copy, Debug, PartialEq, Eq)]
@@ -50,10 +51,11 @@ impl Summary {
 /// Makes the grid of a seed, draws a number of queries from the generator after its lengths, answers them one after
 /// another, and counts what the answers hold. The same numbers give the same summary everywhere.
 ///
-/// A query leads from the vertex of one word to that of the next, with the usual ratios. A survey takes the time of its
-/// answers. The grid takes 40 bytes an arc and 8 a vertex. Besides, 120 bytes a vertex are kept for searches and plans,
-/// with what the largest searches so far needed, and the memory of one answer at a time.
-pub fn survey(
+/// A query leads from the vertex of one word to that of the next, with the usual ratios. A survey takes the time to make
+/// the hierarchy of the grid, and that of its answers. It takes the memory of a `Prepared`, that of its `Work`, and that
+/// of one answer at a time.
+pub fn survey<R: Threads + Sync>(
+    rt: &R,
     alloc: Global,
     seed: u64,
     width: u32,
@@ -65,8 +67,8 @@ pub fn survey(
     ensures summary { IfOk result (IsSurvey seed width height queries) }
 {
     let (graph, mut words) = make(alloc, seed, width, height)?;
-    let star = Star::build(alloc, graph)?;
-    let summary = answer_all(alloc, &star, &mut words, queries)?;
+    let version = Prepared::from_file(rt, alloc, graph)?;
+    let summary = answer_all(rt, alloc, &version, &mut words, queries)?;
     Ok(summary)
 }
 

@@ -3,16 +3,16 @@
 ghost use Rattle.std.specs.Prelude.{◌≡◌, ◌<◌, ◌≤◌, ◌^◌, IfOk};
 ghost use Rattle.std.specs.List.{sum_by};
 ghost use Rattle.road_model.specs.Graph.{IsVertex};
+ghost use Rattle.route_engine.specs.Lineage.{graph_of};
 ghost use Rattle.grid_survey.specs.Summary.{IsSummary, drawn, draws, step};
 
 use crate::Summary;
-use forward_star::Star;
 use rand_core::utils::NextWord;
 use rand_xoshiro::SplitMix64;
-use road_model::{NoMemory, Query, Route, Vertex};
+use road_model::{NoMemory, Planner, Query, Route, Vertex};
+use route_engine::Prepared;
 use std::alloc::Global;
-use tree_search::PlainOracle;
-use via_search::{PlanMemory, plan_in};
+use std::thread::Threads;
 
 // The vertex of the next word.
 fn drawn(words: &mut SplitMix64, vertices: u32) -> Vertex
@@ -32,17 +32,20 @@ pub fn sum_of_lengths(routes: &[Route]) -> u128
     routes.iter().map(|route| u128::from(route.length)).sum()
 }
 
-/// The summary of so many queries over a graph, each between the vertices of the next two words.
-pub fn answer_all(
+/// The summary of so many queries over a version of a graph, each between the vertices of the next two words.
+pub fn answer_all<R: Threads + Sync>(
+    rt: &R,
     alloc: Global,
-    star: &Star,
+    version: &Prepared,
     words: &mut SplitMix64,
     queries: u32,
 ) -> Result<Summary, NoMemory>
     requires few { queries ≤ 10000 }
-    requires some { 1 ≤ star.now.vertices }
-    ensures { IfOk result (IsSummary star.now (draws words.old star.now.vertices queries)) }
+    requires some { 1 ≤ (graph_of version.now).vertices }
+    ensures { IfOk result
+        (IsSummary (graph_of version.now) (draws words.old (graph_of version.now).vertices queries)) }
 {
+    let star = version.star();
     let vertices = star.vertices();
     let mut summary = Summary {
         vertices,
@@ -52,18 +55,11 @@ pub fn answer_all(
         routes: 0,
         length: 0,
     };
-    let mut oracle = PlainOracle::new(alloc, star)?;
-    let mut memory = PlanMemory::new(alloc);
+    let mut work = Prepared::work(alloc);
     for _query in 0..queries {
         let from = drawn(words, vertices);
         let to = drawn(words, vertices);
-        let answer = plan_in(
-            alloc,
-            &mut memory,
-            star,
-            &mut oracle,
-            &Query::usual(from, to),
-        )?;
+        let answer = version.plan(rt, alloc, &mut work, &Query::usual(from, to))?;
         summary.count(&answer);
     }
     Ok(summary)

@@ -33,6 +33,7 @@ use Rattle.road_model.specs.declared.request.CursorQuery.{CursorQuery}
 use Rattle.road_model.specs.declared.request.ErrorKind.TheVariants as error
 use Rattle.road_model.specs.declared.request.Request.{Request}
 use Rattle.road_model.specs.declared.request.Request.TheVariants.{Best, Route, Next, BadCursor, Why, Version, Length, Publish, Quit}
+use Rattle.road_model.specs.Queries.{usual_numbers}
 use Rattle.route_ranking.specs.Cursors.{cursor_of}
 use Rattle.line_front.specs.declared.options.Options.{Options}
 use Rattle.line_front.specs.declared.requests.Parsed.{Parsed}
@@ -78,9 +79,9 @@ abbrev pub query_with : ℕ × ℕ → Options → CursorQuery
 query_with ends o = record {
   from = ends.0;
   to = ends.1;
-  gamma = unwrap_or o.gamma (4, 5);
-  alpha = unwrap_or o.alpha (1, 4);
-  epsilon = unwrap_or o.epsilon (1, 4);
+  gamma = unwrap_or o.gamma (usual_numbers ends.0 ends.1).gamma;
+  alpha = unwrap_or o.alpha (usual_numbers ends.0 ends.1).alpha;
+  epsilon = unwrap_or o.epsilon (usual_numbers ends.0 ends.1).epsilon;
 }
 
 -- ---- requests, each of the fields after its word

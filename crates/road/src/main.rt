@@ -19,7 +19,8 @@ const COMMANDS: &str = "  road check GRAPH
   road make SEED WIDTH HEIGHT
   road survey SEED WIDTH HEIGHT QUERIES
   road answer GRAPH < REQUESTS
-  road recheck GRAPH CERTIFICATE";
+  road recheck GRAPH CERTIFICATE
+  road certify GRAPH FROM TO";
 
 /// The words after the program's name.
 fn words(rt: &HostRuntime) -> io::Result<Vec<String>> {
@@ -59,6 +60,11 @@ fn tell(rt: &HostRuntime, status: Status, file: Option<&String>) {
         (Status::ReadFault, Some(name)) => {
             let _ = eprintln!(rt;
                 "the graph file is {name}; it, a certificate, or the standard input, can't be read"
+            );
+        }
+        (Status::QueryRefused, Some(name)) => {
+            let _ = eprintln!(rt;
+                "the vertices of {name} have the numbers from 1 to that of its line p"
             );
         }
         _ => {}

@@ -3,7 +3,7 @@
 --   changed g c    the length of the named arc is replaced; no other thing changes
 --   after g b      the changes of a batch, in their order, so that a later change of an arc wins
 --   after_all g h  the batches of a list, in turn
---   fault_of g c   what is wrong with a change: its arc isn't one of the graph's, or else its length is outside 1 to 4294967295
+--   fault_of g c   what is wrong with a change: its arc isn't one of the graph's, or else its length is outside 1 to MAX_LENGTH
 --   change_fault g b   what is wrong with the first failing change of a batch
 use Rattle.std.specs.Prelude.{◌-◌, ◌&&◌, ℕ, List, [], ◌∷◌, Option, Some, None, slice_set, nat_le, if◌then◌else◌}
 use Rattle.std.specs.Option.{option_or}
@@ -11,6 +11,7 @@ use Rattle.road_model.specs.declared.rows.ArcRow.{ArcRow}
 use Rattle.road_model.specs.declared.change.Change.{Change}
 use Rattle.road_model.specs.declared.change.ChangeFault.{ChangeFault}
 use Rattle.road_model.specs.declared.change.ChangeFault.TheVariants as fault
+use Rattle.road_model.specs.declared.graph_file.TheConstants.{MAX_LENGTH}
 use Rattle.road_model.specs.Graph.{Graph, rows_of, arc_at, arc_count}
 
 abbrev pub with_row : Graph → ℕ → ℕ → Option ArcRow → Graph
@@ -31,7 +32,7 @@ after_all g (batch ∷ batches) = after_all (after g batch) batches
 abbrev pub fault_of : Graph → Change → Option ChangeFault
 fault_of g c =
     if nat_le 1 c.arc && nat_le c.arc (arc_count g)
-    then (if nat_le 1 c.length && nat_le c.length 4294967295 then None else Some fault.LengthRange)
+    then (if nat_le 1 c.length && nat_le c.length MAX_LENGTH then None else Some fault.LengthRange)
     else Some fault.ArcRange
 
 abbrev pub change_fault : Graph → List Change → Option ChangeFault

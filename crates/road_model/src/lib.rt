@@ -6,6 +6,7 @@
 
 mod answer;
 mod change;
+mod gate;
 mod graph_file;
 mod items;
 mod network;
@@ -20,13 +21,14 @@ mod trail;
 
 pub use answer::{Optimum, PageSpan, Pair, Plan, Query, Route, RouteList, Verdict};
 pub use change::{Batch, Change, ChangeFault};
+pub use gate::{FreeGate, Gate};
 pub use graph_file::{GraphFile, MAX_ARCS, MAX_LENGTH, MAX_VERTICES};
 pub use items::Items;
 pub use network::{Network, Step};
 pub use number::{ArcNo, Vertex};
 pub use oracle::Oracle;
 pub use pinned::Pinned;
-pub use planner::{Planner, Version};
+pub use planner::{LAST_VERSION, Planner, Version};
 pub use ratio::{Ratio, RatioFault};
 pub use request::{Cursor, CursorQuery, ErrorKind, Reply, Request};
 pub use rows::{ArcList, ArcRow, ArcRows, SumList, VertexList};

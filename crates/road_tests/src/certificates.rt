@@ -1,7 +1,7 @@
-//! Certificates, right ones and forged ones, by the command that rechecks them.
+//! Certificates, right ones and forged ones, by the command that rechecks them, and those that are written.
 
-use crate::graphs::{FORK, SHORT, SMALL, STUB};
-use crate::runs::{NEVER, strings};
+use crate::graphs::{DETOUR, FORK, PARALLEL, SHORT, SMALL, STUB, TIES};
+use crate::runs::{NEVER, Run, check, strings};
 use certificate_text::{CertFault, CertKind};
 use dimacs_reader::{GraphFault, GraphKind};
 use road_io::{MemShelf, MemSink, MemSource, NamedFile};
@@ -313,3 +313,165 @@ fn a_run_without_an_answer_writes_nothing(rt: HostRuntime) -> Result<(), Fail> {
     }
     Ok(())
 }
+
+// Runs a command that writes a certificate of a graph.
+fn certifies<R: Abort + Threads + Sync>(
+    rt: &R,
+    alloc: Global,
+    words: &str,
+    graph: &[u8],
+    faults: (&[u64], &[u64]),
+    status: Status,
+    output: &str,
+) -> Result<(), Fail> {
+    let row = Run {
+        words,
+        file: graph,
+        input: b"",
+        shelf_fails: faults.0,
+        input_fails: NEVER,
+        output_fails: faults.1,
+        status,
+        output: output.as_bytes(),
+    };
+    check(rt, alloc, &row, 0)
+}
+
+// Numbers may have leading zeros.
+const WRITTEN: &[(&str, &[u8], &str)] = &[
+    ("certify a.gr 1 6", SMALL, RIGHT),
+    ("certify a.gr 01 000006", SMALL, RIGHT),
+    ("certify a.gr 1 6", FORK, FORKED),
+    ("certify a.gr 6 1", SMALL, NO_PATH),
+];
+
+#[test]
+fn certificates_are_written_byte_for_byte(rt: HostRuntime) -> Result<(), Fail> {
+    for row in WRITTEN {
+        let (words, graph, text) = *row;
+        let (alloc, done) = (rt.alloc(), Status::Done);
+        certifies(&rt, alloc, words, graph, (NEVER, NEVER), done, text)?;
+    }
+    Ok(())
+}
+
+const SECOND: &[u64] = &[1];
+
+// The second read is the one that tells the end of the file, and comes after the call that picks it.
+const THIRD: &[u64] = &[2];
+
+// Words, a graph, the calls of the files and of the output that fail, and how the run ends, with nothing written.
+const UNWRITTEN: &[(&str, &[u8], &[u64], &[u64], Status)] = &[
+    (
+        "certify a.gr 7 1",
+        SMALL,
+        NEVER,
+        NEVER,
+        Status::QueryRefused,
+    ),
+    (
+        "certify a.gr 1 7",
+        SMALL,
+        NEVER,
+        FIRST,
+        Status::QueryRefused,
+    ),
+    (
+        "certify a.gr 0 1",
+        SMALL,
+        NEVER,
+        NEVER,
+        Status::QueryRefused,
+    ),
+    (
+        "certify a.gr 1 0",
+        SMALL,
+        NEVER,
+        NEVER,
+        Status::QueryRefused,
+    ),
+    (
+        "certify a.gr 4294967297 4294967297",
+        SMALL,
+        NEVER,
+        NEVER,
+        Status::QueryRefused,
+    ),
+    (
+        "certify a.gr 1 9999999999999999999",
+        SMALL,
+        NEVER,
+        NEVER,
+        Status::QueryRefused,
+    ),
+    (
+        "certify a.gr 1 1",
+        b"p sp 0 0\n",
+        NEVER,
+        NEVER,
+        Status::QueryRefused,
+    ),
+    (
+        "certify a.gr 1 10000000000000000000",
+        SMALL,
+        NEVER,
+        NEVER,
+        Status::Usage,
+    ),
+    ("certify a.gr 1 -", SMALL, NEVER, NEVER, Status::Usage),
+    ("certify a.gr -1 6", SMALL, NEVER, NEVER, Status::Usage),
+    ("certify a.gr + 6", SMALL, NEVER, NEVER, Status::Usage),
+    ("certify - 1 6", SMALL, NEVER, NEVER, Status::Usage),
+    ("certify a.gr", SMALL, NEVER, NEVER, Status::Usage),
+    ("certify a.gr 1", SMALL, NEVER, NEVER, Status::Usage),
+    ("certify a.gr 1 6 2", SMALL, NEVER, NEVER, Status::Usage),
+    ("certify b.gr 1 6", SMALL, NEVER, NEVER, Status::ReadFault),
+    ("certify a.gr 1 6", SMALL, SECOND, NEVER, Status::ReadFault),
+    ("certify a.gr 7 1", SMALL, THIRD, NEVER, Status::ReadFault),
+    ("certify a.gr 1 6", SMALL, NEVER, FIRST, Status::WriteFault),
+    (
+        "certify a.gr 7 1",
+        SHORT,
+        NEVER,
+        NEVER,
+        Status::GraphRefused(GraphFault {
+            line: 9,
+            kind: GraphKind::TooFewArcs,
+        }),
+    ),
+];
+
+#[test]
+fn a_run_without_a_certificate_writes_nothing(rt: HostRuntime) -> Result<(), Fail> {
+    for row in UNWRITTEN {
+        let (words, graph, reads, writes, status) = *row;
+        certifies(&rt, rt.alloc(), words, graph, (reads, writes), status, "")?;
+    }
+    Ok(())
+}
+
+// What is written between two vertices.
+fn written<R: Abort + Threads + Sync>(
+    rt: &R,
+    alloc: Global,
+    graph: &[u8],
+    ends: (u32, u32),
+) -> Result<Vec<u8>, Fail> {
+    let words = format!(in alloc; "certify a.gr {} {}", ends.0, ends.1)?;
+    let given = strings(alloc, &words)?;
+    let files = [NamedFile {
+        name: "a.gr",
+        bytes: graph,
+    }];
+    let mut shelf = MemShelf::new(&files, 0, NEVER);
+    let mut input = MemSource::new(b"", 0, NEVER);
+    let mut sink = MemSink::new(alloc, NEVER);
+    let ended = run(rt, alloc, &given, &mut shelf, &mut input, &mut sink);
+    assert_eq!(rt; ended, Status::Done, "{words}");
+    let mut bytes = Vec::new(alloc);
+    bytes.extend_from_slice(sink.bytes())?;
+    Ok(bytes)
+}
+
+// Graphs, how many vertices they have, and for each pair of them what is said of its certificate.
+const EVERY_PAIR: &[(&[u8], u32, &str)] = &[(PARALLEL, 2, "yes 1\nyes 1\nyes 0\nyes 1\n")];

@@ -4,6 +4,7 @@ use road_model::{GraphFile, Oracle, Plan, Planner, Query, Vertex};
 use route_engine::Prepared;
 use std::alloc::Global;
 use std::test::Fail;
+use std::thread::Threads;
 use tree_search::PlainOracle;
 use via_search::plan;
 
@@ -33,8 +34,12 @@ fn by_plain_searches(alloc: Global, star: &Star, query: &Query) -> Result<(usize
 }
 
 /// The same by a version, which asks its hierarchy.
-fn by_a_version(alloc: Global, query: &Query) -> Result<(usize, u64), Fail> {
-    let version = Prepared::from_file(alloc, grid(alloc)?)?;
+fn by_a_version(
+    rt: &(impl Threads + Sync),
+    alloc: Global,
+    query: &Query,
+) -> Result<(usize, u64), Fail> {
+    let version = Prepared::from_file(rt, alloc, grid(alloc)?)?;
     let vertices = version.vertices();
     if query.from.number() < 1 || query.from.number() > vertices {
         return Err("no such source".into());
@@ -43,7 +48,7 @@ fn by_a_version(alloc: Global, query: &Query) -> Result<(usize, u64), Fail> {
         return Err("no such target".into());
     }
     let mut work = Prepared::work(alloc);
-    match version.plan_counted(alloc, query, &mut work)? {
+    match version.plan_counted(rt, alloc, query, &mut work)? {
         Plan::Found { others, .. } => Ok((others.len(), work.settled())),
         Plan::NoPath => Err("no path".into()),
     }
@@ -55,7 +60,7 @@ fn a_version_settles_less_than_plain_searches(rt: HostRuntime) -> Result<(), Fai
     let query = Query::usual(Vertex(1), Vertex(3600));
     let star = Star::build(alloc, grid(alloc)?)?;
     let (plain_routes, plain_settled) = by_plain_searches(alloc, &star, &query)?;
-    let (routes, settled) = by_a_version(alloc, &query)?;
+    let (routes, settled) = by_a_version(&rt, alloc, &query)?;
     assert_eq!(rt; routes, plain_routes);
     assert!(rt; settled > 0);
     assert!(rt; settled < plain_settled);

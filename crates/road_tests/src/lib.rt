@@ -21,3 +21,5 @@ mod lines;
 mod refusals;
 #[cfg(test)]
 mod runs;
+#[cfg(test)]
+mod world;

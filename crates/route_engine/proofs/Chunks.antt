@@ -1,9 +1,10 @@
 -- Where the batches of chunks stand in their list.
-use Rattle.std.proofs.Common.{◌≡◌, ◌+◌, ◌-◌, ◌*◌, ◌<◌, ◌≤◌, ◌++◌, ℕ, zero, suc, List, [], ◌∷◌, length, Some, None, refl, sym, ap, ◌∙◌, subst, arith, slice_get, append_assoc, length-append}
+use Rattle.std.proofs.Common.{◌≡◌, ◌+◌, ◌*◌, ◌<◌, ◌≤◌, ◌++◌, ℕ, zero, suc, List, [], ◌∷◌, length, Some, None, refl, sym, ap, ◌∙◌, subst, arith, slice_get, append_assoc, length-append}
 use Rattle.std.specs.Prelude.{All}
 use Rattle.std.specs.List.{AllByRecursion, flat_map}
 use Rattle.std.proofs.lemmas.List.Elements.{recursion_from_All, All-from_recursion, All-append}
 use Rattle.road_model.specs.declared.change.Change.{Change}
+use Rattle.road_model.specs.declared.planner.TheConstants.{LAST_VERSION}
 use Rattle.route_engine.specs.Past.{joined, AreChunks}
 
 abbrev Full : List (List Change) → Type 0
@@ -58,7 +59,7 @@ slice_get-last full last n i h is =
     slice_get-right (flat_map (λ chunk. chunk) full) last n i (omega (arith, length-flat full (recursion_from_All Full full h.full_chunks)))
 
 -- the last chunk has become full
-pub chunk_added : (full : List (List (List Change))) (last grown : List (List Change)) (batch : List Change) (now : List (List Change)) (more : List (List (List Change))) → AreChunks full last → joined full last ≡ now → length now < 1048575 → grown ≡ last ++ batch ∷ [] → 1024 ≤ length grown → more ≡ full ++ grown ∷ [] → AreChunks more []
+pub chunk_added : (full : List (List (List Change))) (last grown : List (List Change)) (batch : List Change) (now : List (List Change)) (more : List (List (List Change))) → AreChunks full last → joined full last ≡ now → length now + 1 < LAST_VERSION → grown ≡ last ++ batch ∷ [] → 1024 ≤ length grown → more ≡ full ++ grown ∷ [] → AreChunks more []
 chunk_added full last grown batch now more h is short longer enough added =
     let grows : length grown ≡ length last + 1 = omega (arith, ap length longer, length-append last (batch ∷ [])) in
     let size : length grown ≡ 1024 = omega (arith, h.last_chunk) in

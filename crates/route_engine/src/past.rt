@@ -1,4 +1,5 @@
-ghost use Rattle.std.specs.Prelude.{◌≡◌, ◌<◌, [], ◌∷◌, ◌++◌, length, slice_get, option_copied, IfOk};
+ghost use Rattle.std.specs.Prelude.{◌≡◌, ◌<◌, ◌+◌, [], ◌∷◌, ◌++◌, length, slice_get, option_copied, IfOk};
+ghost use Rattle.road_model.specs.declared.planner.TheConstants.{LAST_VERSION};
 
 use crate::shared_items::SharedItems;
 use road_model::{Batch, Change, NoMemory};
@@ -43,7 +44,7 @@ impl Past {
 
     pub fn len(&self) -> usize
         ensures count { result ≡ length self.now }
-        ensures few { length self.now < 1048576 }
+        ensures few { length self.now < LAST_VERSION }
     {
         self.full.len() * CHUNK + self.last.len()
     }
@@ -62,7 +63,7 @@ impl Past {
     ///
     /// It copies the batch, at most 1023 handles, and each 1024th time 8 bytes more a full chunk.
     pub fn with(&self, alloc: Global, changes: &[Change]) -> Result<Past, NoMemory>
-        requires { length self.now < 1048575 }
+        requires { length self.now + 1 < LAST_VERSION }
         ensures { IfOk result (λ p. p ≡ self.now ++ changes.now ∷ []) }
     {
         let batch = Arc::new(alloc, Batch::from_slice(alloc, changes)?)?;

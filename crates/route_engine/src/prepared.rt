@@ -1,9 +1,10 @@
-ghost use Rattle.std.specs.Prelude.{◌≡◌, ◌<◌, ◌^◌, [], ◌∷◌, ◌++◌, length, IfOk, IfSome};
+ghost use Rattle.std.specs.Prelude.{◌≡◌, ◌<◌, ◌+◌, ◌^◌, [], ◌∷◌, ◌++◌, length, IfOk, IfSome};
 ghost use Rattle.road_model.specs.Graph.{IsVertex};
 ghost use Rattle.road_model.specs.Dist.{HaveSameDist};
 ghost use Rattle.road_model.specs.Canonical.{IsOptimum};
 ghost use Rattle.road_model.specs.Answers.{IsAnswer};
 ghost use Rattle.road_model.specs.Changes.{after};
+ghost use Rattle.road_model.specs.declared.planner.TheConstants.{LAST_VERSION};
 ghost use Rattle.route_engine.specs.Lineage.{graph_of, number_of};
 ghost use Rattle.route_engine.specs.Oracles.{asked_graph};
 
@@ -17,17 +18,15 @@ use hierarchy_build::Hierarchy;
 use hierarchy_optimum::optimum_by;
 use hierarchy_query::{DistancesFrom, HierarchyOracle};
 use road_model::{
-    Change, ChangeFault, GraphFile, NoMemory, Optimum, Plan, Planner, Query, Verdict, Version,
-    Vertex,
+    Change, ChangeFault, GraphFile, LAST_VERSION, NoMemory, Optimum, Plan, Planner, Query, Verdict,
+    Version, Vertex,
 };
 use std::alloc::Global;
 use std::marker::Model;
 use std::sync::Arc;
+use std::thread::Threads;
 use tree_search::PlainOracle;
 use via_search::{plan_with, verdict_with};
-
-/// The most batches that a version may have after it: its number is then the last.
-const MOST_BATCHES: usize = 1048575;
 
 /// A version of a graph, prepared for requests. To a clause it is the graph of version 1 and the batches since.
 ///
@@ -61,7 +60,11 @@ impl Prepared {
     /// It lays out the star, in linear time, and makes the hierarchy at once, which takes nearly linear time on road
     /// networks: some milliseconds for thousands of vertices, and seconds for a million. Where the hierarchy is refused,
     /// as it would have too many links or triangles, or by want of memory, plain searches answer for good.
-    pub fn from_file(alloc: Global, graph: GraphFile) -> Result<Prepared, NoMemory>
+    pub fn from_file<R: Threads + Sync>(
+        _rt: &R,
+        alloc: Global,
+        graph: GraphFile,
+    ) -> Result<Prepared, NoMemory>
         ensures { IfOk result (λ v. v ≡ record { base = graph; history = [] }) }
     {
         let star = Star::build(alloc, graph)?;
@@ -106,7 +109,7 @@ impl Prepared {
         changes: &[Change],
     ) -> Result<Prepared, NoMemory>
         requires star { star ≡ after (graph_of self.now) changes.now }
-        requires room { length self.now.history < 1048575 }
+        requires room { length self.now.history + 1 < LAST_VERSION }
         ensures { IfOk result (λ v. v ≡ record { base = self.now.base; history = self.now.history ++ changes.now ∷ [] }) }
     {
         let hierarchy = renewed(alloc, &self.hierarchy, &star)?;
@@ -172,8 +175,9 @@ impl Prepared {
     /// It takes what `plan_with` takes. The optimum is found by distances over the hierarchy, in the time of the links above
     /// the vertices of its path and above the tails of arcs into it, and questions are answered by climbs; where there is no
     /// hierarchy, plain searches do both.
-    pub fn plan_counted(
+    pub fn plan_counted<R: Threads + Sync>(
         &self,
+        rt: &R,
         alloc: Global,
         query: &Query,
         work: &mut Work,
@@ -214,8 +218,9 @@ impl Planner for Prepared {
         self.star().arc_count()
     }
 
-    fn best(
+    fn best<R: Threads + Sync>(
         &self,
+        _rt: &R,
         alloc: Global,
         work: &mut Work,
         from: Vertex,
@@ -224,12 +229,19 @@ impl Planner for Prepared {
         self.optimum(alloc, work, from, to)
     }
 
-    fn plan(&self, alloc: Global, work: &mut Work, query: &Query) -> Result<Plan, NoMemory> {
-        self.plan_counted(alloc, query, work)
+    fn plan<R: Threads + Sync>(
+        &self,
+        rt: &R,
+        alloc: Global,
+        work: &mut Work,
+        query: &Query,
+    ) -> Result<Plan, NoMemory> {
+        self.plan_counted(rt, alloc, query, work)
     }
 
-    fn verdict(
+    fn verdict<R: Threads + Sync>(
         &self,
+        _rt: &R,
         alloc: Global,
         work: &mut Work,
         query: &Query,
@@ -261,9 +273,14 @@ impl Version for Prepared {
 
     /// A version takes the time to copy the lengths of the star, that of customising the hierarchy, and constant time more,
     /// about a thousand copied handles. Where memory for its hierarchy is refused, so is the version.
-    fn after(&self, alloc: Global, changes: &[Change]) -> Result<Prepared, ChangeFault> {
+    fn after<R: Threads + Sync>(
+        &self,
+        _rt: &R,
+        alloc: Global,
+        changes: &[Change],
+    ) -> Result<Prepared, ChangeFault> {
         let star = self.star().with(alloc, changes)?;
-        if self.past.len() == MOST_BATCHES {
+        if self.past.len() as u64 == LAST_VERSION - 1 {
             return Err(ChangeFault::Full);
         }
         let next = self.followed_by(alloc, star, changes)?;

@@ -26,6 +26,7 @@ said g bytes out now x the.ReadFault j h = absurd h
 said g bytes out now x the.WriteFault j h = record { answer = x; judged = j; is = h }
 said g bytes out now x the.NoMemory j h = h
 said g bytes out now x the.InputLong j h = absurd h
+said g bytes out now x the.QueryRefused j h = absurd h
 
 said_of : (g star : Graph) (file : Option (List ℕ)) (out now : List ℕ) (x : Checked) (s : Status) → star ≡ g → Judges star file (Ok x) → IsAnswered x out now s → SaysOf g file out now s
 said_of g star None out now x s e j h = absurd j

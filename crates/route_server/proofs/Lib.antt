@@ -1,4 +1,5 @@
 pub mod CheckingLemmas
+pub mod CertifyingLemmas
 pub mod GivingLemmas
 pub mod AskingLemmas
 pub mod InputLemmas

@@ -20,7 +20,9 @@ use Rattle.road_model.specs.declared.request.Request.{Request}
 use Rattle.road_model.specs.declared.request.Request.TheVariants as the
 use Rattle.road_model.specs.Graph.{Graph, arc_count}
 use Rattle.road_model.specs.Changes.{after_all, change_fault, fault_of}
-use Rattle.road_model.specs.Versions.{last_version, version_fault, IsRefusedAs}
+use Rattle.road_model.specs.Versions.{version_fault, IsRefusedAs}
+use Rattle.road_model.specs.declared.graph_file.TheConstants.{MAX_LENGTH}
+use Rattle.road_model.specs.declared.planner.TheConstants.{LAST_VERSION}
 use Rattle.desk_core.specs.declared.refusals.Asked.{Asked}
 use Rattle.desk_core.specs.declared.refusals.Asked.TheVariants as asked
 use Rattle.desk_core.specs.declared.refusals.Limits.{Limits}
@@ -97,7 +99,7 @@ one_passed : (a : Bool) (k : ErrorKind) (x y : Asked) → passed ((a, k) ∷ [])
 one_passed true k x y e = absurd (let f : ◌≡◌ {A = Result Asked ErrorKind} (Err k) (Ok y) = e in cc)
 one_passed false k x y e = refl
 
-in_range : (g : Graph) (c : Change) → is_within 1 (arc_count g) c.arc ≡ true → is_within 1 4294967295 c.length ≡ true → fault_of g c ≡ None
+in_range : (g : Graph) (c : Change) → is_within 1 (arc_count g) c.arc ≡ true → is_within 1 MAX_LENGTH c.length ≡ true → fault_of g c ≡ None
 in_range g c a l = rw (a, l) refl
 
 -- a change that passes them has no fault
@@ -107,12 +109,12 @@ sound_change g state l (the.Length arc length) t c e is ok h =
     ap (λ (x : Limits). outcome x (the.Length arc length)) (sym e) ∙ sym is ∙ ok in
     let asks : Asked = asked.Length (record { arc = arc; length = length }) in
     let same : ◌≡◌ {A = Asked} (asked.Length (record { arc = arc; length = length })) (asked.Length c) =
-    passed_ok ((not (is_within 1 (arc_count g) arc), error.ArcRange) ∷ (not (is_within 1 4294967295 length), error.LengthRange) ∷ []) asks (asked.Length c) done in
-    let range = two_passed (is_within 1 (arc_count g) arc) (is_within 1 4294967295 length) error.ArcRange error.LengthRange asks (asked.Length c) done in
+    passed_ok ((not (is_within 1 (arc_count g) arc), error.ArcRange) ∷ (not (is_within 1 MAX_LENGTH length), error.LengthRange) ∷ []) asks (asked.Length c) done in
+    let range = two_passed (is_within 1 (arc_count g) arc) (is_within 1 MAX_LENGTH length) error.ArcRange error.LengthRange asks (asked.Length c) done in
     let is_change : ◌≡◌ {A = Change} (record { arc = arc; length = length }) c = cc in
     subst (λ (x : Change). fault_of g x ≡ None) is_change (in_range g (record { arc = arc; length = length }) range.0 range.1)
 sound_change g state l the.Publish t c e is ok h =
-    absurd (let same = passed_ok ((l.number == 1048576, error.Full) ∷ []) asked.Publish (asked.Length c) (sym is ∙ ok) in cc)
+    absurd (let same = passed_ok ((l.number == LAST_VERSION, error.Full) ∷ []) asked.Publish (asked.Length c) (sym is ∙ ok) in cc)
 sound_change g state l (the.Best from to) t c e is ok h = absurd h
 sound_change g state l (the.Route q size since) t c e is ok h = absurd h
 sound_change g state l (the.Next c') t c e is ok h = absurd h
@@ -151,13 +153,13 @@ refused_step g state l request t kind r shown e is err said =
 -- ---- versions
 
 -- the one change that is no length
-pub publishes : (g : Graph) (state : State) (l : Limits) (request : Request) (t : Result Asked ErrorKind) (a : Asked) → l ≡ limits_in g state request → t ≡ outcome l request → t ≡ Ok a → ((c : Change) → a ≡ asked.Length c → ⊥) → IsChange request → (a ≡ asked.Publish) × (newest state ≢ last_version)
+pub publishes : (g : Graph) (state : State) (l : Limits) (request : Request) (t : Result Asked ErrorKind) (a : Asked) → l ≡ limits_in g state request → t ≡ outcome l request → t ≡ Ok a → ((c : Change) → a ≡ asked.Length c → ⊥) → IsChange request → (a ≡ asked.Publish) × (newest state ≢ LAST_VERSION)
 publishes g state l (the.Length arc length) t a e is ok n h =
-    absurd (n _ (sym (passed_ok ((not (is_within 1 l.arcs arc), error.ArcRange) ∷ (not (is_within 1 4294967295 length), error.LengthRange) ∷ []) (asked.Length (record { arc = arc; length = length })) a (sym is ∙ ok))))
+    absurd (n _ (sym (passed_ok ((not (is_within 1 l.arcs arc), error.ArcRange) ∷ (not (is_within 1 MAX_LENGTH length), error.LengthRange) ∷ []) (asked.Length (record { arc = arc; length = length })) a (sym is ∙ ok))))
 publishes g state l the.Publish t a e is ok n h =
     let done : outcome (limits_in g state the.Publish) the.Publish ≡ Ok a = tested_here g state l the.Publish t (Ok a) e is ok in
-    let more = one_passed (newest state == 1048576) error.Full asked.Publish a done in
-    (sym (passed_ok ((newest state == 1048576, error.Full) ∷ []) asked.Publish a done), λ (last : newest state ≡ last_version). grind (arith, nat_tests))
+    let more = one_passed (newest state == LAST_VERSION) error.Full asked.Publish a done in
+    (sym (passed_ok ((newest state == LAST_VERSION, error.Full) ∷ []) asked.Publish a done), λ (last : newest state ≡ LAST_VERSION). grind (arith, nat_tests))
 publishes g state l (the.Best from to) t a e is ok n h = absurd h
 publishes g state l (the.Route q size since) t a e is ok n h = absurd h
 publishes g state l (the.Next c) t a e is ok n h = absurd h
@@ -166,12 +168,12 @@ publishes g state l (the.Why q via since) t a e is ok n h = absurd h
 publishes g state l the.Version t a e is ok n h = absurd h
 publishes g state l the.Quit t a e is ok n h = absurd h
 
-no_fault : (g v : Graph) (n : ℕ) (staged : List Change) → SameSize g v → change_fault g staged ≡ None → n ≢ last_version → version_fault v n staged ≡ None
+no_fault : (g v : Graph) (n : ℕ) (staged : List Change) → SameSize g v → change_fault g staged ≡ None → n ≢ LAST_VERSION → version_fault v n staged ≡ None
 no_fault g v n staged same sound more =
-    rw (change_fault-size g v staged same, sound) (let less : (n == 1048576) ≡ false = grind (arith, nat_tests) in rw less refl)
+    rw (change_fault-size g v staged same, sound) (let less : (n == LAST_VERSION) ≡ false = grind (arith, nat_tests) in rw less refl)
 
 -- staged changes without a fault make a version, unless memory is refused
-pub only_memory : (s : SessionState) (v : Graph) (n : ℕ) (staged : List Change) (given : ChangeFault) → IsSoundSession s → v ≡ after_all s.base s.batches → n ≡ length s.batches + 1 → staged ≡ s.staged → newest (state_of s) ≢ last_version → IsRefusedAs (version_fault v n staged) given → given ≡ fault.NoMemory
+pub only_memory : (s : SessionState) (v : Graph) (n : ℕ) (staged : List Change) (given : ChangeFault) → IsSoundSession s → v ≡ after_all s.base s.batches → n ≡ length s.batches + 1 → staged ≡ s.staged → newest (state_of s) ≢ LAST_VERSION → IsRefusedAs (version_fault v n staged) given → given ≡ fault.NoMemory
 only_memory s v n staged given sound g e h more (inl memory) = memory
 only_memory s v n staged given sound g e h more (inr other) =
     let none : version_fault (after_all s.base s.batches) (length s.batches + 1) s.staged ≡ None =

@@ -79,6 +79,7 @@ IsAnswered answer out now the.ReadFault = ⊥
 IsAnswered answer out now the.WriteFault = WritesPrefix (answer_text answer) out now
 IsAnswered answer out now the.NoMemory = now ≡ out
 IsAnswered answer out now the.InputLong = ⊥
+IsAnswered answer out now the.QueryRefused = ⊥
 
 pub record IsSaid (g : Graph) (bytes : List ℕ) (x : Checked) (out now : List ℕ) : Type 0 where
   pub judged : IsJudged g bytes x
@@ -102,6 +103,7 @@ Says g bytes out now the.ReadFault = now ≡ out
 Says g bytes out now the.WriteFault = IsSaidPrefix g bytes out now
 Says g bytes out now the.NoMemory = now ≡ out
 Says g bytes out now the.InputLong = ⊥
+Says g bytes out now the.QueryRefused = ⊥
 
 -- memory may be refused before it is seen that the file isn't there
 abbrev pub IsUnsaid : List ℕ → List ℕ → Status → Type 0
@@ -113,6 +115,7 @@ IsUnsaid out now the.ReadFault = now ≡ out
 IsUnsaid out now the.WriteFault = ⊥
 IsUnsaid out now the.NoMemory = now ≡ out
 IsUnsaid out now the.InputLong = ⊥
+IsUnsaid out now the.QueryRefused = ⊥
 
 abbrev pub SaysOf : Graph → Option (List ℕ) → List ℕ → List ℕ → Status → Type 0
 SaysOf g None out now status = IsUnsaid out now status

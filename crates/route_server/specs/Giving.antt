@@ -41,6 +41,7 @@ GivesText IsText out now the.ReadFault = now ≡ out
 GivesText IsText out now the.WriteFault = IsGivenPrefix IsText out now
 GivesText IsText out now the.NoMemory = now ≡ out
 GivesText IsText out now the.InputLong = ⊥
+GivesText IsText out now the.QueryRefused = ⊥
 
 abbrev pub Refuses : GraphFault → Status → Type 0
 Refuses fault the.Done = ⊥
@@ -51,6 +52,7 @@ Refuses fault the.ReadFault = Unit {0}
 Refuses fault the.WriteFault = ⊥
 Refuses fault the.NoMemory = Unit {0}
 Refuses fault the.InputLong = ⊥
+Refuses fault the.QueryRefused = ⊥
 
 abbrev pub GivesGraph : (Graph → List ℕ → Type 0) → Result Graph GraphFault → List ℕ → List ℕ → Status → Type 0
 GivesGraph IsText (Ok graph) out now status = GivesText (IsText graph) out now status

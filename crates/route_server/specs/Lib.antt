@@ -1,6 +1,7 @@
 pub mod Words
 pub mod Giving
 pub mod Checking
+pub mod Certifying
 pub mod Grids
 pub mod Asking
 pub mod Serving

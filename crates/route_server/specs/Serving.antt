@@ -34,7 +34,7 @@ use Rattle.desk_core.specs.States.{State, at_start}
 use Rattle.desk_core.specs.Replies.{IsStep}
 use Rattle.desk_core.specs.Runs.{Turn, IsRun}
 use Rattle.route_server.specs.declared.status.Status.{Status}
-use Rattle.route_server.specs.declared.status.Status.TheVariants.{Done, CheckedNo, Usage, GraphRefused, ReadFault, WriteFault, NoMemory, InputLong}
+use Rattle.route_server.specs.declared.status.Status.TheVariants.{Done, CheckedNo, Usage, GraphRefused, ReadFault, WriteFault, NoMemory, InputLong, QueryRefused}
 use Rattle.route_server.specs.Asking.{asked_in, lines_within, most_input, NoQuit}
 
 abbrev pub opening : State
@@ -125,3 +125,4 @@ Stops g text rest out now ReadFault = IsCut g text rest out now
 Stops g text rest out now WriteFault = IsUnwritten g text rest out now
 Stops g text rest out now NoMemory = IsStarved g text rest out now
 Stops g text rest out now InputLong = IsOverlong g text rest out now
+Stops g text rest out now QueryRefused = ⊥

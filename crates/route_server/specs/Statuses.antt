@@ -5,7 +5,7 @@ use Rattle.std.specs.Prelude.{ℕ, List, ◌++◌, codes, decimal}
 use Rattle.dimacs_reader.specs.Messages.{kind_word}
 use Rattle.certificate_text.specs.Messages.{fault_word}
 use Rattle.route_server.specs.declared.status.Status.{Status}
-use Rattle.route_server.specs.declared.status.Status.TheVariants.{Done, CheckedNo, Usage, GraphRefused, ReadFault, WriteFault, NoMemory, InputLong}
+use Rattle.route_server.specs.declared.status.Status.TheVariants.{Done, CheckedNo, Usage, GraphRefused, ReadFault, WriteFault, NoMemory, InputLong, QueryRefused}
 
 abbrev pub status_number : Status → ℕ
 status_number Done = 0
@@ -16,6 +16,7 @@ status_number ReadFault = 4
 status_number WriteFault = 5
 status_number NoMemory = 6
 status_number InputLong = 7
+status_number QueryRefused = 8
 
 abbrev pub status_text : Status → List ℕ
 status_text Done = codes "done"
@@ -26,3 +27,4 @@ status_text ReadFault = codes "read fault"
 status_text WriteFault = codes "write fault"
 status_text NoMemory = codes "out of memory"
 status_text InputLong = codes "input too long"
+status_text QueryRefused = codes "vertex out of range"

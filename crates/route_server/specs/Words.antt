@@ -5,11 +5,12 @@
 --   at_most most n     the number, where it is 1 to most
 --   up_to most word    the number of a word, where it is 1 to most
 --   grid_of seed width height   the grid of three words
---   make_of, survey_of   the command of the words after `make`, or after `survey`
+--   ends_of from to    the ends of a query, of two words
+--   make_of, survey_of, certify_of   the command of the words after `make`, `survey` or `certify`
 --   beyond_word word words   the command of a word and the words after it
 --   command_of words   the command, where the words are those of one: `check GRAPH`, `print GRAPH`,
---                      `make SEED WIDTH HEIGHT`, `survey SEED WIDTH HEIGHT QUERIES`, `answer GRAPH` or
---                      `recheck GRAPH CERTIFICATE`
+--                      `make SEED WIDTH HEIGHT`, `survey SEED WIDTH HEIGHT QUERIES`, `answer GRAPH`,
+--                      `recheck GRAPH CERTIFICATE` or `certify GRAPH FROM TO`
 --   name_of words      the second word, which is the name of the graph file where the command has one
 --   other_name_of words   the third word, which is the name of the other file where the command has one
 --   HasSides grid      the sides of a grid are in range
@@ -21,8 +22,9 @@ use Rattle.std.specs.Str.{bytes_eq}
 use Rattle.road_text.specs.Numbers.{number_of}
 use Rattle.grid_maker.specs.Grid.{IsSide}
 use Rattle.route_server.specs.declared.words.Grid.{Grid}
+use Rattle.route_server.specs.declared.words.Ends.{Ends}
 use Rattle.route_server.specs.declared.words.Command.{Command}
-use Rattle.route_server.specs.declared.words.Command.TheVariants.{Check, Print, Make, Survey, Answer, Recheck}
+use Rattle.route_server.specs.declared.words.Command.TheVariants.{Check, Print, Make, Survey, Answer, Recheck, Certify}
 
 abbrev pub has_dash : List ℕ → Bool
 has_dash [] = false
@@ -67,6 +69,17 @@ survey_of (seed ∷ width ∷ height ∷ queries ∷ []) =
     option_map (λ (given : Grid × ℕ). Survey given.0 given.1) (option_zip (grid_of seed width height) (up_to 10000 queries))
 survey_of (seed ∷ width ∷ height ∷ queries ∷ more ∷ words) = None
 
+abbrev pub ends_of : List ℕ → List ℕ → Option Ends
+ends_of from to =
+    option_map (λ (given : ℕ × ℕ). record { from = given.0; to = given.1 }) (option_zip (number_of from) (number_of to))
+
+abbrev pub certify_of : List (List ℕ) → Option Command
+certify_of [] = None
+certify_of (name ∷ []) = None
+certify_of (name ∷ from ∷ []) = None
+certify_of (name ∷ from ∷ to ∷ []) = if has_dash name then None else option_map Certify (ends_of from to)
+certify_of (name ∷ from ∷ to ∷ more ∷ words) = None
+
 abbrev pub beyond_word : List ℕ → List (List ℕ) → Option Command
 beyond_word word words =
     if bytes_eq word (codes "check") then for_file Check words
@@ -75,7 +88,8 @@ beyond_word word words =
     else (if bytes_eq word (codes "survey") then survey_of words
     else (if bytes_eq word (codes "answer") then for_file Answer words
     else (if bytes_eq word (codes "recheck") then for_files Recheck words
-    else None)))))
+    else (if bytes_eq word (codes "certify") then certify_of words
+    else None))))))
 
 abbrev pub command_of : List (List ℕ) → Option Command
 command_of [] = None
@@ -98,3 +112,4 @@ IsSized (Make grid) = HasSides grid
 IsSized (Survey grid queries) = HasSides grid × (queries ≤ 10000)
 IsSized Answer = Unit {0}
 IsSized Recheck = Unit {0}
+IsSized (Certify ends) = Unit {0}

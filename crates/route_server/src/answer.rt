@@ -15,9 +15,11 @@ use crate::status::Status;
 use road_io::{Shelf, Sink, Source};
 use route_engine::Prepared;
 use std::alloc::Global;
+use std::thread::Threads;
 
 /// Answers the request lines of the input over the named graph file, and publishes the changes of lengths among them.
-pub fn answer<F: Shelf, S: Source, K: Sink>(
+pub fn answer<R: Threads + Sync, F: Shelf, S: Source, K: Sink>(
+    rt: &R,
     alloc: Global,
     name: &str,
     shelf: &mut F,
@@ -29,6 +31,7 @@ pub fn answer<F: Shelf, S: Source, K: Sink>(
         IfTold (K.written output.old) (K.written output.new) (λ out now.
         AnswersFile (told.files name.now) text rest out now result))) }
     ensures known { result ≡ Status.Usage → ⊥ }
+    ensures unasked { result ≡ Status.QueryRefused → ⊥ }
     ensures unchecked { (fault : CertFault) → result ≡ Status.CheckedNo fault → ⊥ }
     ensures refused { (fault : GraphFault) → result ≡ Status.GraphRefused fault →
         IfSome (F.left shelf.old) (λ told. HasFault told name.now fault) }
@@ -58,8 +61,8 @@ pub fn answer<F: Shelf, S: Source, K: Sink>(
         Ok(graph) => graph,
         Err(error) => return ends_as(error),
     };
-    match Prepared::from_file(alloc, graph) {
-        Ok(version) => serve(alloc, version, input, output),
+    match Prepared::from_file(rt, alloc, graph) {
+        Ok(version) => serve(rt, alloc, version, input, output),
         Err(_) => Status::NoMemory,
     }
 }

@@ -64,6 +64,7 @@ fn say<K: Sink>(alloc: Global, answer: Checked, output: &mut K) -> Status
     ensures read { result ≡ Status.ReadFault → ⊥ }
     ensures refused { (fault : GraphFault) → result ≡ Status.GraphRefused fault → ⊥ }
     ensures known { result ≡ Status.Usage → ⊥ }
+    ensures unasked { result ≡ Status.QueryRefused → ⊥ }
     ensures inside { result ≡ Status.InputLong → ⊥ }
     ensures count { K.faults output.old ≤ K.faults output.new }
     ensures cause { result ≡ Status.WriteFault → HasRisen (K.faults output.old) (K.faults output.new) }
@@ -121,6 +122,7 @@ pub fn recheck_named<F: Shelf, K: Sink>(
         IfTold (K.written output.old) (K.written output.new) (λ out now.
         SaysFile (told.files name.now) (told.files other.now) out now result)) }
     ensures known { result ≡ Status.Usage → ⊥ }
+    ensures unasked { result ≡ Status.QueryRefused → ⊥ }
     ensures inside { result ≡ Status.InputLong → ⊥ }
     ensures refused { (fault : GraphFault) → result ≡ Status.GraphRefused fault →
         IfSome (F.left shelf.old) (λ told. HasFault told name.now fault) }

@@ -8,15 +8,18 @@ ghost use Rattle.dimacs_reader.specs.declared.fault.GraphFault.{GraphFault};
 ghost use Rattle.certificate_text.specs.declared.fault.CertFault.{CertFault};
 ghost use Rattle.route_server.specs.Words.{command_of, name_of, other_name_of};
 ghost use Rattle.route_server.specs.Checking.{SaysFile};
+ghost use Rattle.route_server.specs.Certifying.{CertifiesFile};
 ghost use Rattle.route_server.specs.Answer.{AnswersFile};
 ghost use Rattle.route_server.specs.Giving.{GivesText, GivesOf, IsCheck, IsPrint};
 ghost use Rattle.route_server.specs.Grids.{IsMade, IsSurveyed};
-ghost use Rattle.route_server.specs.Causes.{HasFault, HasFile, IsAccepted, IsEarly, IsLong, IsReady, IsRefusal, IsUnjudged, IsWhole};
+ghost use Rattle.route_server.specs.Causes.{HasFault, HasFile, IsAccepted, IsCertify, IsEarly, IsLong, IsOutside, IsReady, IsRefusal, IsUnjudged, IsWhole};
 ghost use Rattle.route_server.specs.declared.words.Command.TheVariants as command;
 ghost use Rattle.route_server.specs.declared.words.Grid.{Grid as Made};
+ghost use Rattle.route_server.specs.declared.words.Ends.{Ends as Between};
 
 use crate::answer::answer;
 use crate::certificates::recheck_named;
+use crate::certifying::certify_named;
 use crate::graphs::{check, print};
 use crate::grids::{make, survey};
 use crate::status::Status;
@@ -33,9 +36,10 @@ use std::thread::Threads;
 /// kept from one query to the next with what the largest searches so far needed. `answer` keeps as much for searches
 /// and plans, and the newest version of the graph (`route_engine::Prepared`), beside the next one while a change is
 /// published. Besides, it keeps 128 KB for lines, the plans of the last eight queries that a page was asked of, and the
-/// longest reply.
+/// longest reply. `certify` takes 40 bytes an arc, the memory of a plan, and the certificate, whose blocks have 24 bytes a
+/// vertex that their searches reach.
 pub fn run<R: Threads + Sync, F: Shelf, S: Source, K: Sink>(
-    _rt: &R,
+    rt: &R,
     alloc: Global,
     words: &[String],
     shelf: &mut F,
@@ -71,6 +75,10 @@ pub fn run<R: Threads + Sync, F: Shelf, S: Source, K: Sink>(
         IfTold (K.written output.old) (K.written output.new) (λ out now.
         SaysFile (told.files (name_of (map (λ w. string_bytes w) words.now)))
         (told.files (other_name_of (map (λ w. string_bytes w) words.now))) out now result)) }
+    ensures certify { (ends : Between) → command_of (map (λ w. string_bytes w) words.now) ≡ Some (command.Certify ends) →
+        IfSome (F.left shelf.old) (λ told.
+        IfTold (K.written output.old) (K.written output.new) (λ out now.
+        CertifiesFile (told.files (name_of (map (λ w. string_bytes w) words.now))) ends out now result)) }
 
     // What the command has no use for stays as it is: no call was made of it.
     ensures unread { command_of (map (λ w. string_bytes w) words.now) ≢ Some command.Answer → input.new ≡ input.old }
@@ -94,6 +102,10 @@ pub fn run<R: Threads + Sync, F: Shelf, S: Source, K: Sink>(
     ensures refused_alone { (fault : GraphFault) → result ≡ Status.GraphRefused fault → HasFile (command_of (map (λ w. string_bytes w) words.now)) }
     ensures refused { (fault : GraphFault) → result ≡ Status.GraphRefused fault →
         IfSome (F.left shelf.old) (λ told. HasFault told (name_of (map (λ w. string_bytes w) words.now)) fault) }
+    ensures certifies_alone { result ≡ Status.QueryRefused → IsCertify (command_of (map (λ w. string_bytes w) words.now)) }
+    ensures outside { (ends : Between) → command_of (map (λ w. string_bytes w) words.now) ≡ Some (command.Certify ends) →
+        result ≡ Status.QueryRefused →
+        IfSome (F.left shelf.old) (λ told. IsOutside (Some told) (name_of (map (λ w. string_bytes w) words.now)) ends) }
     ensures first_fault { result ≡ Status.ReadFault → IfSome (F.left shelf.old) (λ told.
         IsUnjudged told (name_of (map (λ w. string_bytes w) words.now)) (F.left shelf.new)
         ⊎ (IsAccepted (F.left shelf.old) (name_of (map (λ w. string_bytes w) words.now))
@@ -105,6 +117,10 @@ pub fn run<R: Threads + Sync, F: Shelf, S: Source, K: Sink>(
         (HasRisen (F.faults shelf.old) (F.faults shelf.new) → ⊥) →
         (HasRisen (S.faults input.old) (S.faults input.new) → ⊥) →
         (HasRisen (K.faults output.old) (K.faults output.new) → ⊥) → IsWhole result }
+    ensures complete_outside { (ends : Between) → command_of (map (λ w. string_bytes w) words.now) ≡ Some (command.Certify ends) →
+        IsOutside (F.left shelf.old) (name_of (map (λ w. string_bytes w) words.now)) ends →
+        (HasRisen (F.faults shelf.old) (F.faults shelf.new) → ⊥) →
+        (result ≡ Status.QueryRefused) ⊎ (result ≡ Status.NoMemory) }
 
     // Faults come from the shelf, the input and the output alone, and end the run.
     ensures read_cause { result ≡ Status.ReadFault →
@@ -125,8 +141,9 @@ pub fn run<R: Threads + Sync, F: Shelf, S: Source, K: Sink>(
         Command::Check => check(alloc, name, shelf, output),
         Command::Print => print(alloc, name, shelf, output),
         Command::Make(grid) => make(alloc, grid, output),
-        Command::Survey(grid, queries) => survey(alloc, grid, queries, output),
-        Command::Answer => answer(alloc, name, shelf, input, output),
+        Command::Survey(grid, queries) => survey(rt, alloc, grid, queries, output),
+        Command::Answer => answer(rt, alloc, name, shelf, input, output),
         Command::Recheck => recheck_named(alloc, name, other_name(words), shelf, output),
+        Command::Certify(ends) => certify_named(alloc, name, ends, shelf, output),
     }
 }

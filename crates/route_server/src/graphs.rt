@@ -44,6 +44,7 @@ pub fn check<F: Shelf, K: Sink>(alloc: Global, name: &str, shelf: &mut F, output
         IfTold (K.written output.old) (K.written output.new) (λ out now.
         GivesOf IsCheck (told.files name.now) out now result)) }
     ensures known { result ≡ Status.Usage → ⊥ }
+    ensures unasked { result ≡ Status.QueryRefused → ⊥ }
     ensures unchecked { (fault : CertFault) → result ≡ Status.CheckedNo fault → ⊥ }
     ensures inside { result ≡ Status.InputLong → ⊥ }
     ensures refused { (fault : GraphFault) → result ≡ Status.GraphRefused fault →
@@ -80,6 +81,7 @@ pub fn print<F: Shelf, K: Sink>(alloc: Global, name: &str, shelf: &mut F, output
         IfTold (K.written output.old) (K.written output.new) (λ out now.
         GivesOf IsPrint (told.files name.now) out now result)) }
     ensures known { result ≡ Status.Usage → ⊥ }
+    ensures unasked { result ≡ Status.QueryRefused → ⊥ }
     ensures unchecked { (fault : CertFault) → result ≡ Status.CheckedNo fault → ⊥ }
     ensures inside { result ≡ Status.InputLong → ⊥ }
     ensures refused { (fault : GraphFault) → result ≡ Status.GraphRefused fault →

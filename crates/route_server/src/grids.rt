@@ -19,12 +19,14 @@ use road_io::{Gathered, Sink};
 use road_model::GraphFile;
 use road_text::SinkFailed;
 use std::alloc::Global;
+use std::thread::Threads;
 
 /// Writes a graph in the canonical form.
 fn write<K: Sink>(graph: &GraphFile, output: &mut K) -> Status
     ensures gives { IfTold (K.written output.old) (K.written output.new) (λ out now.
         GivesText (IsPrint graph.now) out now result) }
     ensures known { result ≡ Status.Usage → ⊥ }
+    ensures unasked { result ≡ Status.QueryRefused → ⊥ }
     ensures unchecked { (fault : CertFault) → result ≡ Status.CheckedNo fault → ⊥ }
     ensures inside { result ≡ Status.InputLong → ⊥ }
     ensures accepted { (fault : GraphFault) → result ≡ Status.GraphRefused fault → ⊥ }
@@ -45,6 +47,7 @@ pub fn make<K: Sink>(alloc: Global, grid: Grid, output: &mut K) -> Status
     ensures gives { IfTold (K.written output.old) (K.written output.new) (λ out now.
         GivesText (IsMade grid) out now result) }
     ensures known { result ≡ Status.Usage → ⊥ }
+    ensures unasked { result ≡ Status.QueryRefused → ⊥ }
     ensures unchecked { (fault : CertFault) → result ≡ Status.CheckedNo fault → ⊥ }
     ensures inside { result ≡ Status.InputLong → ⊥ }
     ensures accepted { (fault : GraphFault) → result ≡ Status.GraphRefused fault → ⊥ }
@@ -62,13 +65,20 @@ pub fn make<K: Sink>(alloc: Global, grid: Grid, output: &mut K) -> Status
 }
 
 /// Makes a grid, plans queries over it, and writes their summary.
-pub fn survey<K: Sink>(alloc: Global, grid: Grid, queries: u32, output: &mut K) -> Status
+pub fn survey<R: Threads + Sync, K: Sink>(
+    rt: &R,
+    alloc: Global,
+    grid: Grid,
+    queries: u32,
+    output: &mut K,
+) -> Status
     requires width { IsSide grid.width }
     requires height { IsSide grid.height }
     requires few { queries ≤ 10000 }
     ensures gives { IfTold (K.written output.old) (K.written output.new) (λ out now.
         GivesText (IsSurveyed grid queries) out now result) }
     ensures known { result ≡ Status.Usage → ⊥ }
+    ensures unasked { result ≡ Status.QueryRefused → ⊥ }
     ensures unchecked { (fault : CertFault) → result ≡ Status.CheckedNo fault → ⊥ }
     ensures inside { result ≡ Status.InputLong → ⊥ }
     ensures accepted { (fault : GraphFault) → result ≡ Status.GraphRefused fault → ⊥ }
@@ -79,7 +89,8 @@ pub fn survey<K: Sink>(alloc: Global, grid: Grid, queries: u32, output: &mut K) 
     ensures write_cause { result ≡ Status.WriteFault → HasRisen (K.faults output.old) (K.faults output.new) }
     ensures write_quiet { result ≢ Status.WriteFault → K.faults output.new ≡ K.faults output.old }
 {
-    let Ok(summary) = grid_survey::survey(alloc, grid.seed, grid.width, grid.height, queries) else {
+    let Ok(summary) = grid_survey::survey(rt, alloc, grid.seed, grid.width, grid.height, queries)
+    else {
         return Status::NoMemory;
     };
     let mut text = Gathered::new(alloc);

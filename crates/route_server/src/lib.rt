@@ -4,6 +4,7 @@
 mod answer;
 mod answering;
 mod certificates;
+mod certifying;
 mod command;
 mod graphs;
 mod grids;

@@ -20,6 +20,7 @@ use road_io::{Gathered, Put, Sink, Source};
 use road_model::{Plan, Reply, Version};
 use road_text::{LineReader, SinkFailed};
 use std::alloc::Global;
+use std::thread::Threads;
 
 /// The most bytes of input.
 const MAX_INPUT: u64 = 4294967296;
@@ -59,7 +60,8 @@ fn send<K: Sink>(
 }
 
 /// Answers one line.
-fn serve_one<V: Version + Drop, K: Sink>(
+fn serve_one<R: Threads + Sync, V: Version + Drop, K: Sink>(
+    rt: &R,
     alloc: Global,
     session: &mut Session<V>,
     asked: &Parsed,
@@ -74,7 +76,7 @@ fn serve_one<V: Version + Drop, K: Sink>(
     ensures quiet { result ≢ Served.WriteFault → K.faults output.new ≡ K.faults output.old }
     ensures unquit { result ≡ Served.Written → is_quit asked.now ≡ false }
 {
-    match say(alloc, session, asked) {
+    match say(rt, alloc, session, asked) {
         Said::Nothing => Served::Written,
         Said::Quit => Served::Quit,
         Said::Answered(reply) => send(&reply, session.shown(), gathered, output),
@@ -86,7 +88,8 @@ fn serve_one<V: Version + Drop, K: Sink>(
 ///
 /// It keeps 128 KB for lines, the memory of searches (`Planner::Work`), the plans of the last eight queries, and the
 /// longest reply.
-pub fn serve<V: Version + Drop, S: Source, K: Sink>(
+pub fn serve<R: Threads + Sync, V: Version + Drop, S: Source, K: Sink>(
+    rt: &R,
     alloc: Global,
     version: V,
     input: &mut S,
@@ -97,6 +100,7 @@ pub fn serve<V: Version + Drop, S: Source, K: Sink>(
         IfTold (K.written output.old) (K.written output.new) (λ out now.
         Stops (V.base version) text rest out now result)) }
     ensures known { result ≡ Status.Usage → ⊥ }
+    ensures unasked { result ≡ Status.QueryRefused → ⊥ }
     ensures unchecked { (fault : CertFault) → result ≡ Status.CheckedNo fault → ⊥ }
     ensures unrefused { IsRefusal result → ⊥ }
     ensures long { result ≡ Status.InputLong → IfTold (S.left input.old) (S.left input.new) (λ text rest. IsLong text) }
@@ -119,7 +123,7 @@ pub fn serve<V: Version + Drop, S: Source, K: Sink>(
     'lines: loop {
         match next_line(&mut reader, input) {
             NextLine::More(asked) => {
-                match serve_one(alloc, &mut session, &asked, &mut gathered, output) {
+                match serve_one(rt, alloc, &mut session, &asked, &mut gathered, output) {
                     Served::Written => {}
                     Served::Quit => return Status::Done,
                     Served::WriteFault => return Status::WriteFault,
@@ -127,7 +131,7 @@ pub fn serve<V: Version + Drop, S: Source, K: Sink>(
                 }
             }
             NextLine::Last(asked) => {
-                match serve_one(alloc, &mut session, &asked, &mut gathered, output) {
+                match serve_one(rt, alloc, &mut session, &asked, &mut gathered, output) {
                     Served::Written => return Status::Done,
                     Served::Quit => return Status::Done,
                     Served::WriteFault => return Status::WriteFault,

@@ -3,7 +3,7 @@
 ghost use Rattle.std.specs.Prelude.{◌≡◌, ◌≢◌, ◌++◌, [], ◌∷◌, false, None, option_copied, IfErr, IfOk};
 ghost use Rattle.road_model.specs.declared.change.ChangeFault.TheVariants as fault;
 ghost use Rattle.road_model.specs.Changes.{fault_of};
-ghost use Rattle.road_model.specs.Versions.{last_version};
+ghost use Rattle.road_model.specs.declared.planner.TheConstants.{LAST_VERSION};
 ghost use Rattle.desk_core.specs.declared.refusals.Asked.TheVariants as question;
 ghost use Rattle.desk_core.specs.States.{limits_in, newest};
 ghost use Rattle.desk_core.specs.Replies.{IsStep};
@@ -18,6 +18,7 @@ use road_model::{
 use std::alloc::Global;
 use std::marker::Model;
 use std::sync::Arc;
+use std::thread::Threads;
 
 /// How many plans the desk keeps.
 const KEPT: u32 = 8;
@@ -105,25 +106,30 @@ impl<V: Version + Drop> Session<V> {
     }
 
     /// The version after the newest, with what is staged.
-    fn with_staged(&self, alloc: Global) -> Result<Pinned<V>, ChangeFault>
-        requires { newest (state_of self.now) ≢ last_version }
+    fn with_staged<R: Threads + Sync>(
+        &self,
+        rt: &R,
+        alloc: Global,
+    ) -> Result<Pinned<V>, ChangeFault>
+        requires { newest (state_of self.now) ≢ LAST_VERSION }
         ensures base { IfOk result (λ v. V.base v ≡ self.now.base) }
         ensures history { IfOk result (λ v. V.history v ≡ self.now.batches ++ self.now.staged ∷ []) }
         ensures memory { IfErr result (λ e. e ≡ fault.NoMemory) }
     {
-        match self.newest.prepared().after(alloc, self.staged.as_slice()) {
+        let staged = self.staged.as_slice();
+        match self.newest.prepared().after(rt, alloc, staged) {
             Ok(version) => Ok(Pinned::of(Arc::new(alloc, version)?)),
             Err(fault) => Err(fault),
         }
     }
 
     /// Makes what is staged a new version.
-    fn publish(&mut self, alloc: Global) -> Reply
-        requires { newest (state_of self.old) ≢ last_version }
+    fn publish<R: Threads + Sync>(&mut self, rt: &R, alloc: Global) -> Reply
+        requires { newest (state_of self.old) ≢ LAST_VERSION }
         ensures made { IsChangeMade self.old.base (state_of self.old) question.Publish result (last_plan self.new) (state_of self.new) }
         ensures base { self.new.base ≡ self.old.base }
     {
-        match self.with_staged(alloc) {
+        match self.with_staged(rt, alloc) {
             Ok(version) => {
                 let number = version.number();
                 self.newest = version;
@@ -135,14 +141,14 @@ impl<V: Version + Drop> Session<V> {
     }
 
     /// Replies to a request for a change.
-    fn change(&mut self, alloc: Global, request: &Request) -> Reply
+    fn change<R: Threads + Sync>(&mut self, rt: &R, alloc: Global, request: &Request) -> Reply
         requires { IsChange request.now }
         ensures step { IsStep self.old.base (state_of self.old) request.now result (last_plan self.new) (state_of self.new) }
         ensures base { self.new.base ≡ self.old.base }
     {
         match tested(&self.limits(), request) {
             Ok(Asked::Length(change)) => self.stage(change),
-            Ok(_) => self.publish(alloc),
+            Ok(_) => self.publish(rt, alloc),
             Err(kind) => Reply::Error(kind),
         }
     }
@@ -152,17 +158,17 @@ impl<V: Version + Drop> Session<V> {
     ///
     /// A page of a kept plan, in whichever version, takes no memory and makes no search. A refused request leaves the
     /// session as it was.
-    pub fn reply(&mut self, alloc: Global, request: &Request) -> Reply
+    pub fn reply<R: Threads + Sync>(&mut self, rt: &R, alloc: Global, request: &Request) -> Reply
         requires { is_quit_request request.now ≡ false }
         ensures step { IsStep self.old.base (state_of self.old) request.now result (last_plan self.new) (state_of self.new) }
         ensures items { HasItems result (last_plan self.new) }
         ensures base { self.new.base ≡ self.old.base }
     {
         match request {
-            Request::Length { .. } | Request::Publish => self.change(alloc, request),
+            Request::Length { .. } | Request::Publish => self.change(rt, alloc, request),
             _ => self
                 .desk
-                .handle(alloc, &mut self.work, &self.newest, request),
+                .handle(rt, alloc, &mut self.work, &self.newest, request),
         }
     }
 }

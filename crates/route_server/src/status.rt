@@ -23,6 +23,8 @@ pub enum Status {
     NoMemory,
     /// The input has more than 4294967296 bytes.
     InputLong,
+    /// The graph has no vertex of a number that the query leads from or to.
+    QueryRefused,
 }
 
 impl Status {
@@ -42,6 +44,7 @@ impl Status {
             Status::WriteFault => 5,
             Status::NoMemory => 6,
             Status::InputLong => 7,
+            Status::QueryRefused => 8,
         }
     }
 }
@@ -68,6 +71,7 @@ impl fmt::Display for Status {
             Status::WriteFault => write!(f, "write fault"),
             Status::NoMemory => write!(f, "out of memory"),
             Status::InputLong => write!(f, "input too long"),
+            Status::QueryRefused => write!(f, "vertex out of range"),
         }
     }
 }

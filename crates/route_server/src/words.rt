@@ -3,7 +3,7 @@
 ghost use Rattle.std.specs.Prelude.{◌≡◌, ◌≤◌, IfSome, map, string_bytes};
 ghost use Rattle.grid_maker.specs.Grid.{IsSide};
 ghost use Rattle.road_text.specs.Numbers.{number_of};
-ghost use Rattle.route_server.specs.Words.{beyond_word, command_of, for_file, for_files, grid_of, has_dash, make_of, name_of, other_name_of, survey_of, up_to, IsSized};
+ghost use Rattle.route_server.specs.Words.{beyond_word, certify_of, command_of, for_file, for_files, grid_of, has_dash, make_of, name_of, other_name_of, survey_of, up_to, IsSized};
 
 use road_text::number;
 
@@ -21,7 +21,14 @@ pub struct Grid {
     pub height: u32,
 }
 
-/// What the words ask for. The graph file of `check`, `print`, `answer` and `recheck` is the second word, and the
+/// The ends of a query: the numbers of the vertices that it leads from and to, which a graph needn't have.
+#[derive(Clone, Copy, Debug, PartialEq, Eq)]
+pub struct Ends {
+    pub from: u64,
+    pub to: u64,
+}
+
+/// What the words ask for. The graph file of `check`, `print`, `answer`, `recheck` and `certify` is the second word, and the
 /// certificate of `recheck` the third.
 #[derive(Clone, Copy, Debug, PartialEq, Eq)]
 pub enum Command {
@@ -32,6 +39,7 @@ pub enum Command {
     Survey(Grid, u32),
     Answer,
     Recheck,
+    Certify(Ends),
 }
 
 /// Whether a word begins with a dash.
@@ -122,6 +130,22 @@ fn read_survey(words: &[String]) -> Option<Command>
     Some(Command::Survey(grid, queries))
 }
 
+/// The words after `certify`.
+fn read_certify(words: &[String]) -> Option<Command>
+    ensures command { result ≡ certify_of (map (λ w. string_bytes w) words.now) }
+    ensures sized { IfSome result IsSized }
+{
+    let [name, from, to] = words else {
+        return None;
+    };
+    if has_dash(name.as_bytes()) {
+        return None;
+    }
+    let from = number(from.as_bytes())?;
+    let to = number(to.as_bytes())?;
+    Some(Command::Certify(Ends { from, to }))
+}
+
 /// The command of a word and the words after it.
 fn beyond_word(word: &str, words: &[String]) -> Option<Command>
     ensures command { result ≡ beyond_word word.now (map (λ w. string_bytes w) words.now) }
@@ -144,6 +168,9 @@ fn beyond_word(word: &str, words: &[String]) -> Option<Command>
     }
     if word == "recheck" {
         return for_files(Command::Recheck, words);
+    }
+    if word == "certify" {
+        return read_certify(words);
     }
     None
 }

@@ -12,6 +12,7 @@ use std::alloc::{AllocError, Global};
 use std::process::Abort;
 use std::sync::Arc;
 use std::test::Fail;
+use std::thread::Threads;
 
 /// A version whose graph has no arcs. It refuses memory to a query whose source is its target. Its memory counts the
 /// plans that were asked for.
@@ -43,8 +44,9 @@ impl Planner for Arcless {
         0
     }
 
-    fn best(
+    fn best<R: Threads + Sync>(
         &self,
+        _rt: &R,
         _alloc: Global,
         _work: &mut u64,
         from: Vertex,
@@ -56,7 +58,13 @@ impl Planner for Arcless {
         Ok(None)
     }
 
-    fn plan(&self, _alloc: Global, work: &mut u64, query: &Query) -> Result<Plan, NoMemory> {
+    fn plan<R: Threads + Sync>(
+        &self,
+        _rt: &R,
+        _alloc: Global,
+        work: &mut u64,
+        query: &Query,
+    ) -> Result<Plan, NoMemory> {
         *work = work.wrapping_add(1);
         if query.from == query.to {
             return Err(AllocError);
@@ -64,8 +72,9 @@ impl Planner for Arcless {
         Ok(Plan::NoPath)
     }
 
-    fn verdict(
+    fn verdict<R: Threads + Sync>(
         &self,
+        _rt: &R,
         _alloc: Global,
         _work: &mut u64,
         query: &Query,
@@ -120,7 +129,8 @@ fn told(reply: &Reply) -> Result<u64, ErrorKind> {
 }
 
 /// What is told over the version of this number, and whether a plan was asked for.
-fn handled(
+fn handled<R: Threads + Sync>(
+    rt: &R,
     alloc: Global,
     desk: &mut Desk,
     number: u64,
@@ -132,22 +142,22 @@ fn handled(
     let pinned = Pinned::of(version);
     let request = request(asked);
     let mut work = Arcless::work(alloc);
-    let reply = desk.handle(alloc, &mut work, &pinned, &request);
+    let reply = desk.handle(rt, alloc, &mut work, &pinned, &request);
     (told(&reply), work > 0)
 }
 
 /// Each row has the pinned version, what is asked, what is told, and whether a plan was asked for. What was refused
 /// memory is asked a second time, so that one failing allocation changes nothing.
 fn ask_all(
-    rt: &impl Abort,
+    rt: &(impl Abort + Threads + Sync),
     alloc: Global,
     desk: &mut Desk,
     rows: &[(u64, Ask, Result<u64, ErrorKind>, bool)],
 ) {
     for (number, asked, wanted, planned) in rows {
-        let mut outcome = handled(alloc, desk, *number, asked);
+        let mut outcome = handled(rt, alloc, desk, *number, asked);
         if outcome.0 == Err(ErrorKind::Memory) {
-            outcome = handled(alloc, desk, *number, asked);
+            outcome = handled(rt, alloc, desk, *number, asked);
         }
         assert_eq!(rt; outcome, (*wanted, *planned));
     }

@@ -14,6 +14,7 @@ use road_model::{
 use std::alloc::{AllocError, Global};
 use std::process::Abort;
 use std::test::Fail;
+use std::thread::Threads;
 
 /// A version of a graph of 20 vertices and no arcs, after so many empty batches. It refuses memory to every question but
 /// for a plan.
@@ -47,8 +48,9 @@ impl Planner for Bare {
         0
     }
 
-    fn best(
+    fn best<R: Threads + Sync>(
         &self,
+        _rt: &R,
         _alloc: Global,
         _work: &mut (),
         _from: Vertex,
@@ -57,15 +59,22 @@ impl Planner for Bare {
         Err(AllocError)
     }
 
-    fn plan(&self, alloc: Global, _work: &mut (), query: &Query) -> Result<Plan, NoMemory> {
+    fn plan<R: Threads + Sync>(
+        &self,
+        _rt: &R,
+        alloc: Global,
+        _work: &mut (),
+        query: &Query,
+    ) -> Result<Plan, NoMemory> {
         if query.from == query.to {
             return Ok(nowhere(alloc));
         }
         Ok(Plan::NoPath)
     }
 
-    fn verdict(
+    fn verdict<R: Threads + Sync>(
         &self,
+        _rt: &R,
         _alloc: Global,
         _work: &mut (),
         _query: &Query,
@@ -82,7 +91,12 @@ impl Version for Bare {
 
     ghost history = { λ v. replicate v.batches [] };
 
-    fn after(&self, _alloc: Global, changes: &[Change]) -> Result<Bare, ChangeFault> {
+    fn after<R: Threads + Sync>(
+        &self,
+        _rt: &R,
+        _alloc: Global,
+        changes: &[Change],
+    ) -> Result<Bare, ChangeFault> {
         if !changes.is_empty() {
             return Err(ChangeFault::ArcRange);
         }
@@ -236,10 +250,14 @@ fn told(outcome: &Outcome) -> Wanted {
 
 /// Lets the events of these rows happen in a world that was just started, where each has to come to what stands beside
 /// it.
-fn run(rt: &impl Abort, alloc: Global, rows: &[(Happens, Wanted)]) -> Result<(), NoMemory> {
+fn run(
+    rt: &(impl Abort + Threads + Sync),
+    alloc: Global,
+    rows: &[(Happens, Wanted)],
+) -> Result<(), NoMemory> {
     let mut world = World::start(alloc, Bare { batches: 0 }, 2)?;
     let events = events(alloc, rows)?;
-    let outcomes = run_desks(alloc, &mut world, &mut (), &events)?;
+    let outcomes = run_desks(rt, alloc, &mut world, &mut (), &events)?;
     assert_eq!(rt; outcomes.len(), rows.len());
     for (outcome, (_, wanted)) in outcomes.as_slice().iter().zip(rows) {
         assert_eq!(rt; told(outcome), *wanted);

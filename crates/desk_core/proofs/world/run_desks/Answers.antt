@@ -2,8 +2,8 @@ use Rattle.desk_core.proofs.CallerLemmas.{at_err}
 use Rattle.desk_core.proofs.WorldLemmas.{broken_callers, event_for, next_callers, run_broken, run_callers, run_pushed, run_through}
 use Rattle.desk_core.proofs.world.run_desks.Goals as goal
 
-pub step-requires : goal.step-requires
-step-requires g c =
+pub step-requires-after_bounds : goal.step-requires-after_bounds
+step-requires-after_bounds g c κs within =
     event_for c.args.world.now c.loop-event.world c.args.events.now c.loop-event.outcomes c.loop-event.event-index c.event-item.result c.requires c.loop-event-test.true c.event-item.is c.loop-event.invariant
 
 pub returns-in_err-step-clause-callers : goal.returns-in_err-step-clause-callers
