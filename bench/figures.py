@@ -53,9 +53,9 @@ def megabytes(path):
 
 
 def seconds(words, text, check=True):
-    """The time of a run, which has to end with status 0 where that is checked."""
+    """The time of a run, which has to end with status 0 where that is checked, and else says nothing."""
     begin = time.monotonic()
-    program.run(words, text, stdout=subprocess.DEVNULL, check=check)
+    program.run(words, text, stdout=subprocess.DEVNULL, stderr=None if check else subprocess.DEVNULL, check=check)
     return time.monotonic() - begin
 
 

@@ -40,10 +40,10 @@ def built():
     return BUILT
 
 
-def run(words, text=b"", stdout=subprocess.PIPE, check=False, seconds=SECONDS):
+def run(words, text=b"", stdout=subprocess.PIPE, stderr=None, check=False, seconds=SECONDS):
     """The status and the output of a program with this text as its input. The script ends where the program doesn't end
     in time, or where its status is to be 0 and isn't."""
-    with subprocess.Popen(words, stdin=subprocess.PIPE, stdout=stdout) as process:
+    with subprocess.Popen(words, stdin=subprocess.PIPE, stdout=stdout, stderr=stderr) as process:
         # Not the timeout of `communicate`: that asks for the end every now and then, and so adds to the times measured.
         timer = threading.Timer(seconds, process.kill)
         timer.daemon = True
