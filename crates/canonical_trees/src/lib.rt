@@ -7,11 +7,13 @@
 #![tactic(auto)]
 
 mod descent;
+mod forked;
 mod kept;
 mod path;
 mod tree_memory;
 mod tree_pair;
 
+pub use forked::trees_forked_in;
 pub use path::{optimum, optimum_in, via_path};
 pub use tree_memory::TreeMemory;
 pub use tree_pair::{FromTree, ToTree, TreePair, tree_from, tree_to, trees, trees_in};

@@ -1,10 +1,11 @@
 //! The two trees of a query.
 
 ghost use Rattle.std.specs.Prelude.{◌≡◌, ◌<◌, ◌^◌, IfOk, IfSome, OnOk};
-ghost use Rattle.road_model.specs.Graph.{IsVertex};
+ghost use Rattle.road_model.specs.Graph.{IsVertex, LengthsBelow};
 ghost use Rattle.road_model.specs.Canonical.{IsFirst};
 ghost use Rattle.label_setting.specs.Search.{IsTracked};
-ghost use Rattle.canonical_trees.specs.Tight.{AddsPath};
+ghost use Rattle.canonical_trees.specs.Kept.{AreSteps};
+ghost use Rattle.canonical_trees.specs.Tight.{AddsPath, IsRooted};
 ghost use Rattle.canonical_trees.specs.Trees.{IsInside, IsLabel, IsMembersFrom, IsMembersTo, IsSearched};
 ghost use Rattle.canonical_trees.specs.Trees.{IsFromStep, IsToStep, IsFromArc, IsToArc};
 
@@ -17,6 +18,7 @@ use road_model::{ArcNo, NoMemory, Step, Vertex, VertexList};
 use stamped_table::Table;
 use std::alloc::Global;
 use std::marker::Model;
+use std::thread::{Threads, join_mut};
 use tree_search::search::ball_in;
 use tree_search::{Ball, Labels, SearchMemory};
 
@@ -93,7 +95,7 @@ pub fn tree_from<'a>(
 }
 
 /// The same in a kept memory, which `FromTree::into_memory` gives back. No step of an earlier tree is kept.
-fn tree_from_in<'a>(
+pub(crate) fn tree_from_in<'a>(
     alloc: Global,
     memory: &mut SearchMemory,
     steps: &mut Table<KeptStep>,
@@ -137,7 +139,7 @@ pub fn tree_to<'a>(
 }
 
 /// The same in a kept memory, which `ToTree::into_memory` gives back. No step of an earlier tree is kept.
-fn tree_to_in<'a>(
+pub(crate) fn tree_to_in<'a>(
     alloc: Global,
     memory: &mut SearchMemory,
     steps: &mut Table<KeptStep>,
@@ -428,6 +430,46 @@ impl<'a> TreePair<'a> {
     {
         self.from.keep_steps(&self.to.labels(), most)?;
         self.to.keep_steps(&self.from.labels(), most)?;
+        Ok(())
+    }
+
+    /// Keeps the steps that `keep_steps` keeps, those of the two balls at once. It changes no answer.
+    ///
+    /// Takes the time of the larger ball's pass and scans, and a thread while it runs; memory as `keep_steps`. After an
+    /// `Err` the pair is as it was, and keeps no steps of the ball from the source.
+    pub fn keep_steps_forked<R: Threads + Sync>(
+        &mut self,
+        rt: &R,
+        most: u64,
+    ) -> Result<(), NoMemory>
+        ensures { self.new ≡ self.old }
+    {
+        let places = self.from.star.vertices() as usize + 1;
+        self.from.steps.empty(places)?;
+        self.to.steps.empty(places)?;
+        let TreePair { from, to } = self;
+        let (back, star) = (from.star.reversed(), to.star);
+        let (source, target) = (from.source, to.target);
+        let near = from.ball.labels();
+        let far = to.ball.labels();
+        let from_members = from.ball.members().as_slice();
+        let to_members = to.ball.members().as_slice();
+        let (from_steps, to_steps) = (&mut from.steps, &mut to.steps);
+        join_mut(
+            rt,
+            &mut ||
+                requires { LengthsBelow back (2 ^ 32) × IsRooted back source near
+                    × AreSteps back source near from_steps.now }
+            {
+                keep_near(&back, &near, &far, from_members, most, source, from_steps);
+            },
+            &mut ||
+                requires { LengthsBelow star.now (2 ^ 32) × IsRooted star.now target far
+                    × AreSteps star.now target far to_steps.now }
+            {
+                keep_near(star, &far, &near, to_members, most, target, to_steps);
+            },
+        );
         Ok(())
     }
 

@@ -3,4 +3,5 @@ pub mod LinkedVias
 pub mod LinkReads
 pub mod WholeChains
 pub mod Gathered
+pub mod Forked
 pub mod Sound

@@ -1,14 +1,17 @@
 //! All plateaus.
 
-ghost use Rattle.std.specs.Prelude.{◌≡◌, Some, None, IfOk, Contains};
+ghost use Rattle.std.specs.Prelude.{◌≡◌, Some, None, IfOk, Contains, IsPermutation};
+ghost use Rattle.std.specs.List.Sorted.{IsNonDecreasingBy};
 ghost use Rattle.plateau_finder.specs.Plateaus.{ArePlateaus, FindsPlateau, IsPlateauThrough};
-ghost use Rattle.plateau_finder.specs.Links.{IsChainBack, AreGathered, HasLeast};
+ghost use Rattle.plateau_finder.specs.Links.{IsChainBack, AreGathered, HasLeast, StartsAt};
 
 use crate::chains::{first_of, plateau_at, plateau_from};
 use crate::plateau::{Plateau, PlateauList};
 use canonical_trees::TreePair;
+use rayon::prelude::*;
 use road_model::{NoMemory, Vertex};
 use std::alloc::Global;
+use std::thread::Threads;
 
 /// The plateaus of the walks within the bound, by rising first vertex.
 fn gathered(
@@ -28,10 +31,31 @@ fn gathered(
     Ok(found)
 }
 
-fn in_order(alloc: Global, pair: &TreePair<'_>, bound: Option<u64>) -> Result<PlateauList, NoMemory>
-    ensures { IfOk result (λ cs. ArePlateaus pair.now bound cs) }
+/// The plateaus that `gathered` finds, by as many threads as there are processors.
+fn gathered_forked<R: Threads + Sync>(
+    rt: &R,
+    alloc: Global,
+    pair: &TreePair<'_>,
+    bound: Option<u64>,
+) -> Result<Vec<Plateau>, NoMemory>
+    ensures { IfOk result (λ cs. AreGathered pair.now bound cs.items) }
 {
-    let mut found = gathered(alloc, pair, bound)?;
+    pair.star().within_limits();
+    let vertices = pair.from_members().as_slice();
+    vertices
+        .par_iter()
+        .filter_map(
+            |v: &Vertex| -> Option<Plateau>
+                ensures { StartsAt pair.entry.now bound v.now result }
+            { plateau_at(pair, *v, bound) },
+        )
+        .collect(rt, alloc)
+}
+
+/// By rising least vertex.
+fn in_order(mut found: Vec<Plateau>) -> Result<PlateauList, NoMemory>
+    ensures { IfOk result (λ cs. IsPermutation found.items cs × IsNonDecreasingBy (λ (c : Plateau). c.least) cs) }
+{
     found.sort_by_key(|plateau| plateau.least)?;
     Ok(PlateauList::from_vec(found))
 }
@@ -41,7 +65,7 @@ fn in_order(alloc: Global, pair: &TreePair<'_>, bound: Option<u64>) -> Result<Pl
 pub fn plateaus(alloc: Global, pair: &TreePair<'_>) -> Result<PlateauList, NoMemory>
     ensures { IfOk result (λ cs. ArePlateaus pair.now None cs) }
 {
-    let list = in_order(alloc, pair, None)?;
+    let list = in_order(gathered(alloc, pair, None)?)?;
     Ok(list)
 }
 
@@ -53,7 +77,21 @@ pub fn plateaus_within(
 ) -> Result<PlateauList, NoMemory>
     ensures { IfOk result (λ cs. ArePlateaus pair.now (Some bound) cs) }
 {
-    let list = in_order(alloc, pair, Some(bound))?;
+    let list = in_order(gathered(alloc, pair, Some(bound))?)?;
+    Ok(list)
+}
+
+/// The plateaus that `plateaus_within` finds. The vertices of the ball from the source are parted among as many threads
+/// as there are processors, where they are 2048 or more. One thread walks the whole of a plateau, and one sorts them.
+pub fn plateaus_forked<R: Threads + Sync>(
+    rt: &R,
+    alloc: Global,
+    pair: &TreePair<'_>,
+    bound: u64,
+) -> Result<PlateauList, NoMemory>
+    ensures { IfOk result (λ cs. ArePlateaus pair.now (Some bound) cs) }
+{
+    let list = in_order(gathered_forked(rt, alloc, pair, Some(bound))?)?;
     Ok(list)
 }
 

@@ -11,5 +11,5 @@ mod finding;
 mod links;
 mod plateau;
 
-pub use finding::{plateau_of, plateau_through, plateaus, plateaus_within};
+pub use finding::{plateau_of, plateau_through, plateaus, plateaus_forked, plateaus_within};
 pub use plateau::{Plateau, PlateauList};

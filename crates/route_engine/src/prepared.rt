@@ -1,11 +1,11 @@
-ghost use Rattle.std.specs.Prelude.{◌≡◌, ◌<◌, ◌+◌, ◌^◌, [], ◌∷◌, ◌++◌, length, IfOk, IfSome};
+ghost use Rattle.std.specs.Prelude.{◌≡◌, ◌<◌, ◌+◌, ◌^◌, [], ◌∷◌, ◌++◌, length, All, IfOk, IfSome};
 ghost use Rattle.road_model.specs.Graph.{IsVertex};
 ghost use Rattle.road_model.specs.Dist.{HaveSameDist};
 ghost use Rattle.road_model.specs.Canonical.{IsOptimum};
 ghost use Rattle.road_model.specs.Answers.{IsAnswer};
 ghost use Rattle.road_model.specs.Changes.{after};
 ghost use Rattle.road_model.specs.declared.planner.TheConstants.{LAST_VERSION};
-ghost use Rattle.route_engine.specs.Lineage.{graph_of, number_of};
+ghost use Rattle.route_engine.specs.Lineage.{Serves, graph_of, number_of};
 ghost use Rattle.route_engine.specs.Oracles.{asked_graph};
 
 use crate::hierarchies::{hierarchy_of, renewed};
@@ -18,15 +18,28 @@ use hierarchy_build::Hierarchy;
 use hierarchy_optimum::optimum_by;
 use hierarchy_query::{DistancesFrom, HierarchyOracle};
 use road_model::{
-    Change, ChangeFault, GraphFile, LAST_VERSION, NoMemory, Optimum, Plan, Planner, Query, Verdict,
-    Version, Vertex,
+    Change, ChangeFault, FreeGate, GraphFile, LAST_VERSION, NoMemory, Optimum, Plan, Planner,
+    Query, Verdict, Version, Vertex,
 };
 use std::alloc::Global;
 use std::marker::Model;
 use std::sync::Arc;
 use std::thread::Threads;
 use tree_search::PlainOracle;
-use via_search::{plan_with, verdict_with};
+use via_search::{plan_forked_with, plan_with, verdict_with};
+
+/// From so many arcs of its optimum on, a query is far.
+const FAR: usize = 96;
+
+/// How many oracles test the paths of a far query, each in a thread.
+const PIECES: usize = 4;
+
+fn is_far(optimum: &Option<Optimum>) -> bool {
+    match optimum {
+        Some(optimum) => optimum.arcs.len() >= FAR,
+        None => false,
+    }
+}
 
 /// A version of a graph, prepared for requests. To a clause it is the graph of version 1 and the batches since.
 ///
@@ -170,11 +183,68 @@ impl Prepared {
         }
     }
 
-    /// The plan of a query, which adds to `work.settled()` what its oracle settled.
+    // Oracles over the hierarchy, one for each piece of a far query.
+    fn climbing(
+        &self,
+        alloc: Global,
+        work: &mut Work,
+        hierarchy: &Arc<Hierarchy, Global>,
+    ) -> Result<Vec<HierarchyOracle>, NoMemory>
+        requires { Serves (graph_of self.now) hierarchy.now.value }
+        ensures many { IfOk result (λ os. length os.items ≡ 4) }
+        ensures same { IfOk result (λ os. All (λ o. HaveSameDist (graph_of self.now) o.graph) os.items) }
+    {
+        let mut oracles = Vec::with_capacity(alloc, PIECES)?;
+        for _ in 0..PIECES {
+            let hierarchy = Arc::try_clone(hierarchy)?;
+            let memory = work.take_climbs(alloc);
+            let oracle = HierarchyOracle::in_memory(alloc, memory, hierarchy)?;
+            oracles.push(oracle)?;
+        }
+        Ok(oracles)
+    }
+
+    // The plan of a far query, by several threads.
+    fn plan_far<R: Threads + Sync>(
+        &self,
+        rt: &R,
+        alloc: Global,
+        query: &Query,
+        work: &mut Work,
+        hierarchy: &Arc<Hierarchy, Global>,
+        optimum: Option<Optimum>,
+    ) -> Result<Plan, NoMemory>
+        requires source { IsVertex (graph_of self.now).vertices query.now.from }
+        requires target { IsVertex (graph_of self.now).vertices query.now.to }
+        requires serves { Serves (graph_of self.now) hierarchy.now.value }
+        requires optimum { IsOptimum (graph_of self.now) query.now.from query.now.to optimum }
+        requires short { IfSome optimum (λ o. o.length < 2 ^ 57) }
+        ensures { IfOk result (IsAnswer (graph_of self.now) query.now) }
+    {
+        let star = self.star();
+        let mut oracles = self.climbing(alloc, work, hierarchy)?;
+        let plan = plan_forked_with(
+            rt,
+            alloc,
+            &FreeGate,
+            &mut work.plans,
+            star,
+            oracles.as_mut_slice(),
+            query,
+            optimum,
+        );
+        for oracle in oracles {
+            work.keep_climbs(oracle);
+        }
+        plan
+    }
+
+    /// The plan of a query, which adds to `work.settled()` what its oracles settled.
     ///
     /// It takes what `plan_with` takes. The optimum is found by distances over the hierarchy, in the time of the links above
     /// the vertices of its path and above the tails of arcs into it, and questions are answered by climbs; where there is no
-    /// hierarchy, plain searches do both.
+    /// hierarchy, plain searches do both. Where the optimum has 96 arcs or more and there is a hierarchy, four threads share
+    /// the work, as `plan_forked_with` does it.
     pub fn plan_counted<R: Threads + Sync>(
         &self,
         rt: &R,
@@ -188,6 +258,12 @@ impl Prepared {
     {
         let star = self.star();
         let optimum = self.optimum(alloc, work, query.from, query.to)?;
+        match &self.hierarchy {
+            Some(hierarchy) if is_far(&optimum) => {
+                return self.plan_far(rt, alloc, query, work, hierarchy, optimum);
+            }
+            _ => {}
+        }
         let mut oracle = self.oracle(alloc, work)?;
         let plan = plan_with(alloc, &mut work.plans, star, &mut oracle, query, optimum);
         work.keep(oracle);

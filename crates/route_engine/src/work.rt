@@ -1,5 +1,5 @@
 use crate::version_oracle::VersionOracle;
-use hierarchy_query::{ClimbMemory, DistancesFrom, HillMemory};
+use hierarchy_query::{ClimbMemory, DistancesFrom, HierarchyOracle, HillMemory};
 use road_model::Oracle;
 use std::alloc::Global;
 use std::marker::Model;
@@ -10,13 +10,13 @@ use via_search::PlanMemory;
 /// The memory of requests, kept from one to the next. It serves every version of every graph, and tells nothing of the
 /// requests before.
 ///
-/// It keeps what `PlanMemory` keeps. Where hierarchies answer, it keeps 16 bytes a vertex for questions, and 16 bytes a
-/// vertex and a little more for optima; elsewhere 8 bytes a vertex and what the largest search so far needed. A request
-/// takes memory for these only where the one before was over another number of vertices.
+/// It keeps what `PlanMemory` keeps. Where hierarchies answer, it keeps 16 bytes a vertex for questions, four times that
+/// after a far plan, and 16 bytes a vertex and a little more for optima; elsewhere 8 bytes a vertex and what the largest
+/// search so far needed. A request takes memory for these only where those before were over another number of vertices.
 #[derive(Drop)]
 pub struct Work {
     pub(crate) plans: PlanMemory,
-    climbs: ClimbMemory,
+    climbs: Vec<ClimbMemory>,
     hills: HillMemory,
     searches: SearchMemory,
     settled: u64,
@@ -39,7 +39,7 @@ impl Work {
     pub fn new(alloc: Global) -> Work {
         Work {
             plans: PlanMemory::new(alloc),
-            climbs: ClimbMemory::new(alloc),
+            climbs: Vec::new(alloc),
             hills: HillMemory::new(alloc),
             searches: SearchMemory::new(alloc),
             settled: 0,
@@ -52,9 +52,12 @@ impl Work {
         self.settled
     }
 
-    /// The memory of climbs; an empty one stays in its place.
+    /// The memory of climbs for one more oracle; an empty one where none is kept.
     pub(crate) fn take_climbs(&mut self, alloc: Global) -> ClimbMemory {
-        mem::replace(&mut self.climbs, ClimbMemory::new(alloc))
+        match self.climbs.pop() {
+            Some(memory) => memory,
+            None => ClimbMemory::new(alloc),
+        }
     }
 
     /// The memory of optima over hierarchies; an empty one stays in its place.
@@ -76,10 +79,19 @@ impl Work {
 
     /// Keeps the memory of an oracle, and counts what it settled.
     pub(crate) fn keep(&mut self, oracle: VersionOracle<'_>) {
-        self.settled = self.settled.saturating_add(oracle.settled());
         match oracle {
-            VersionOracle::Climbing(oracle) => self.climbs = oracle.into_memory(),
-            VersionOracle::Plain(oracle) => self.searches = oracle.into_memory(),
+            VersionOracle::Climbing(oracle) => self.keep_climbs(oracle),
+            VersionOracle::Plain(oracle) => {
+                self.settled = self.settled.saturating_add(oracle.settled());
+                self.searches = oracle.into_memory();
+            }
         }
+    }
+
+    /// Keeps the memory of climbs, and counts what was settled.
+    pub(crate) fn keep_climbs(&mut self, oracle: HierarchyOracle) {
+        self.settled = self.settled.saturating_add(oracle.settled());
+        // Where there is no room in the list, a later request lays the memory out anew.
+        let _ = self.climbs.push(oracle.into_memory());
     }
 }

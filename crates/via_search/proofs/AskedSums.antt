@@ -1,10 +1,9 @@
--- The questions of a plan, summed over the plateaus.
-use Rattle.std.proofs.Common.{◌≡◌, ◌≢◌, ℕ, ◌+◌, ◌*◌, ◌-◌, ◌<◌, ◌≤◌, zero, suc, List, [], ◌∷◌, ◌++◌, length, get_or, take, All, AllPairs, Some, slice_get, sym, ap, ◌∙◌, subst, arith, ⊎_elim, length-append}
+-- The questions of a plan, summed over the plateaus that are left for the oracle.
+use Rattle.std.proofs.Common.{◌≡◌, ◌≢◌, ℕ, ◌+◌, ◌*◌, ◌-◌, ◌<◌, ◌≤◌, zero, suc, List, [], ◌∷◌, ◌++◌, length, get_or, take, All, AllPairs, sym, ap, ◌∙◌, subst, arith, ⊎_elim, length-append}
 use Rattle.std.specs.List.{sum_by}
 use Rattle.std.proofs.Math.Nat.{mul-le-mul_right}
 use Rattle.std.proofs.lemmas.Bool.{cases_lt}
 use Rattle.std.proofs.lemmas.List.Sums.{sum_by-cons, sum_by_more, sum_by-take-le}
-use Rattle.std.proofs.lemmas.Option.{slice_get-get_or, slice_get_within}
 use Rattle.road_model.specs.declared.answer.Optimum.{Optimum}
 use Rattle.road_model.specs.declared.answer.Query.{Query}
 use Rattle.road_model.specs.declared.trail.Trail.{Trail}
@@ -16,10 +15,11 @@ use Rattle.road_model.specs.Alternatives.{IsVia, IsName}
 use Rattle.road_model.specs.ViaWalk.{AsksWithin}
 use Rattle.road_model.proofs.Parts.{length-places}
 use Rattle.road_model.proofs.CanonicalWalks.{IsFirst-unique}
-use Rattle.plateau_finder.specs.declared.plateau.Plateau.{Plateau}
-use Rattle.plateau_finder.specs.Plateaus.{ArePlateaus}
-use Rattle.via_search.specs.Candidates.{IsPosed, IsBoundOf, pair_of}
-use Rattle.via_search.specs.Asks.{cost, BoundsEach, total, AsksAtMost, AsksFor, AsksOnce, AsksForPlan}
+use Rattle.via_search.specs.Candidates.{IsPosed, IsBoundOf}
+use Rattle.via_search.specs.declared.sifting.Sifted.{Sifted}
+use Rattle.via_search.specs.Settings.{Givens}
+use Rattle.via_search.specs.Sifting.{IsSifted, AsksForAll}
+use Rattle.via_search.specs.Asks.{cost, total, AsksAtMost, AsksFor, AsksOnce, AsksForPlan}
 
 total_rises : (f : ℕ → ℕ) (n m : ℕ) → m ≤ n → total f m ≤ total f n
 total_rises f zero zero le = omega arith
@@ -37,42 +37,39 @@ total_step : (f : ℕ → ℕ) (m v : ℕ) → m < v → total f m + f v ≤ tot
 total_step f m zero lt = absurd (omega arith)
 total_step f m (suc v) lt = let low : total f m ≤ total f v = total_rises f v m (omega arith) in omega arith
 
-abbrev asked_of : (ℕ → ℕ) → List Plateau → ℕ
-asked_of f cs = sum_by (λ (c : Plateau). f c.least) cs
+abbrev asked_of : (ℕ → ℕ) → List Sifted → ℕ
+asked_of f ss = sum_by (λ (s : Sifted). f s.plateau.least) ss
 
-sum_total : (f : ℕ → ℕ) (n m : ℕ) (cs : List Plateau) → AllPairs (λ (a b : Plateau). a.least < b.least) cs → All (λ (c : Plateau). m < c.least) cs → All (λ (c : Plateau). c.least ≤ n) cs → m ≤ n → asked_of f cs + total f m ≤ total f n
+sum_total : (f : ℕ → ℕ) (n m : ℕ) (ss : List Sifted) → AllPairs (λ (a b : Sifted). a.plateau.least < b.plateau.least) ss → All (λ (s : Sifted). m < s.plateau.least) ss → All (λ (s : Sifted). s.plateau.least ≤ n) ss → m ≤ n → asked_of f ss + total f m ≤ total f n
 sum_total f n m [] rising above below le = omega (arith, total_rises f n m le)
-sum_total f n m (c ∷ cs) rising above below le =
-    let step : total f m + f c.least ≤ total f c.least = total_step f m c.least (above 0 c (omega arith)) in
-    let rest : asked_of f cs + total f c.least ≤ total f n = sum_total f n c.least cs
+sum_total f n m (s ∷ ss) rising above below le =
+    let step : total f m + f s.plateau.least ≤ total f s.plateau.least = total_step f m s.plateau.least (above 0 s (omega arith)) in
+    let rest : asked_of f ss + total f s.plateau.least ≤ total f n = sum_total f n s.plateau.least ss
     (λ i j d lt inside. rising (suc i) (suc j) d (omega arith) (omega arith))
     (λ i d lt. rising zero (suc i) d (omega arith) (omega arith))
     (λ i d lt. below (suc i) d (omega arith))
-    (below 0 c (omega arith)) in
-    omega (arith, sum_by-cons (λ (x : Plateau). f x.least) c cs)
+    (below 0 s (omega arith)) in
+    omega (arith, sum_by-cons (λ (y : Sifted). f y.plateau.least) s ss)
 
--- what was asked of the first i plateaus
-abbrev pub AsksSoFar : Graph → ℕ → ℕ → ℕ → List ℕ → List Plateau → ℕ → ℕ → ℕ → Type 0
-AsksSoFar g s t bound o cs i old new = (f : ℕ → ℕ) → BoundsEach g s t bound o f → new ≤ old + sum_by (λ (c : Plateau). f c.least) (take i cs)
+pub asks_start : (x : Givens) (ss : List Sifted) (old : ℕ) → AsksForAll x ss old old
+asks_start x ss old f h = omega arith
 
-pub asks_start : (g : Graph) (s t bound : ℕ) (o : List ℕ) (cs : List Plateau) (old : ℕ) → AsksSoFar g s t bound o cs 0 old old
-asks_start g s t bound o cs old f h = omega arith
+-- one more of a list
+pub asks_more : (x : Givens) (ss : List Sifted) (i old now new : ℕ) (s : Sifted) → i < length ss → s ≡ get_or ss i s → AsksForAll x (take i ss) old now → AsksFor x.graph x.query.from x.query.to x.reach x.optimum.arcs s.plateau.least now new → AsksForAll x (take (i + 1) ss) old new
+asks_more x ss i old now new s inside at h own f each =
+    let least : f (get_or ss i s).plateau.least ≡ f s.plateau.least = ap (λ (y : Sifted). f y.plateau.least) (sym at) in
+    omega (arith, sum_by_more (λ (y : Sifted). f y.plateau.least) ss i s inside, h f each, own f each)
 
-pub asks_more : (g : Graph) (s t bound : ℕ) (o : List ℕ) (cs : List Plateau) (i old now new : ℕ) (c : Plateau) → slice_get cs i ≡ Some c → AsksSoFar g s t bound o cs i old now → AsksFor g s t bound o c.least now new → AsksSoFar g s t bound o cs (i + 1) old new
-asks_more g s t bound o cs i old now new c here h own f each =
-    let inside : i < length cs = slice_get_within cs i c here in
-    let both : Some (get_or cs i c) ≡ Some c = sym (slice_get-get_or cs i c inside) ∙ here in
-    let same : get_or cs i c ≡ c = cc in
-    let least : f (get_or cs i c).least ≡ f c.least = ap (λ (x : Plateau). f x.least) same in
-    omega (arith, sum_by_more (λ (x : Plateau). f x.least) cs i c inside, h f each, own f each)
+pub asks_of_part : (x : Givens) (ss : List Sifted) (i old new : ℕ) → AsksForAll x (take i ss) old new → AsksForAll x ss old new
+asks_of_part x ss i old new h f each = omega (arith, h f each, sum_by-take-le (λ (s : Sifted). f s.plateau.least) ss i)
 
-pub asks_all : (g : Graph) (q : Query) (bound : ℕ) (o : List ℕ) (cs : List Plateau) (i old new : ℕ) → ArePlateaus (pair_of g q bound) (Some bound) cs → AsksSoFar g q.from q.to bound o cs i old new → AsksAtMost g q.from q.to bound o old new
-asks_all g q bound o cs i old new all h f each =
-    let most : asked_of f cs + total f 0 ≤ total f g.vertices = sum_total f g.vertices 0 cs all.rising
-    (λ k d lt. (all.each k d lt).is.least.vertex.first)
-    (λ k d lt. (all.each k d lt).is.least.vertex.last)
+pub asks_all : (x : Givens) (ss : List Sifted) (old new : ℕ) → AllPairs (λ (a b : Sifted). a.plateau.least < b.plateau.least) ss → All (IsSifted x) ss → AsksForAll x ss old new → AsksAtMost x.graph x.query.from x.query.to x.reach x.optimum.arcs old new
+asks_all x ss old new rising each_is h f each =
+    let most : asked_of f ss + total f 0 ≤ total f x.graph.vertices = sum_total f x.graph.vertices 0 ss rising
+    (λ k d lt. (each_is k d lt).listed.is.least.vertex.first)
+    (λ k d lt. (each_is k d lt).listed.is.least.vertex.last)
     (omega arith) in
-    omega (arith, h f each, sum_by-take-le (λ (x : Plateau). f x.least) cs i)
+    omega (arith, h f each)
 
 pub asks_none : (g : Graph) (s t bound : ℕ) (o : List ℕ) (old new : ℕ) → new ≡ old → AsksAtMost g s t bound o old new
 asks_none g s t bound o old new same f each = omega arith

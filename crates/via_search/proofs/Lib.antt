@@ -6,6 +6,8 @@ pub mod Refusals
 pub mod Posed
 pub mod PathsThrough
 pub mod Judgements
+pub mod Gathering
 pub mod AskedSums
 pub mod PlateauPaths
 pub mod ListedRoutes
+pub mod ForkedTests

@@ -3,4 +3,6 @@ pub mod Settings
 pub mod Judging
 pub mod Asks
 pub mod Listing
+pub mod Sifting
+pub mod Forking
 pub mod Through

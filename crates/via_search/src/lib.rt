@@ -8,13 +8,16 @@
 #![tactic(auto)]
 
 mod candidates;
+mod forked;
 mod judging;
 mod memory;
 mod planning;
 mod routes;
 mod setting;
+mod sifting;
 mod verdicts;
 
+pub use forked::{plan_forked, plan_forked_with};
 pub use memory::PlanMemory;
 pub use planning::{plan, plan_in, plan_with};
 pub use verdicts::{verdict, verdict_in, verdict_with};

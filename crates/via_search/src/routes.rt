@@ -1,68 +1,48 @@
 //! The alternatives of a query.
 
-ghost use Rattle.std.specs.Prelude.{◌≡◌, Some, IfOk};
+ghost use Rattle.std.specs.Prelude.{◌≡◌, Some, IfOk, All};
 ghost use Rattle.road_model.specs.Graph.{IsVertex};
 ghost use Rattle.road_model.specs.Dist.{HaveSameDist};
 ghost use Rattle.road_model.specs.Answers.{IsListing};
-ghost use Rattle.plateau_finder.specs.Plateaus.{IsListedPlateau, ArePlateaus};
+ghost use Rattle.plateau_finder.specs.Plateaus.{ArePlateaus};
 ghost use Rattle.via_search.specs.Candidates.{IsPosed, IsBoundOf};
 ghost use Rattle.via_search.specs.Settings.{trees_of};
 ghost use Rattle.via_search.specs.Judging.{StaysCounted};
 ghost use Rattle.via_search.specs.Asks.{AsksFor, AsksAtMost, AsksForPlan};
 ghost use Rattle.via_search.specs.Listing.{IsRouteOf};
+ghost use Rattle.via_search.specs.Sifting.{IsSifted, ArePut, AsksForAll};
 
 use crate::candidates::candidate_of;
 use crate::judging::passes_oracle;
 use crate::memory::PlanMemory;
 use crate::setting::{Setting, trees_with_steps};
+use crate::sifting::{Sifted, sift_all};
 use forward_star::Star;
-use path_tests::within_share;
 use plateau_finder::{Plateau, plateaus_within};
 use road_model::{NoMemory, Optimum, Oracle, Query, Route, RouteList};
 use route_ranking::{order_routes, rank};
 use std::alloc::Global;
-use std::mem;
-use tree_tests::{Refusals, SharedSums, SumTables, WayTables};
 
-/// The route of a plateau's path, where it is an alternative. The optimum is known by the target, which is among
-/// the vertices of its plateau alone.
-fn route_of<O: Oracle>(
+/// The route of a plateau's path, where it passes the tests that ask the oracle.
+fn put<O: Oracle>(
     alloc: Global,
     setting: &Setting<'_>,
     oracle: &mut O,
-    sums: &mut SharedSums<'_>,
-    ways: &mut Refusals<'_>,
-    plateau: &Plateau,
+    sifted: &Sifted,
 ) -> Result<Option<Route>, NoMemory>
     requires same { HaveSameDist setting.now.graph (O.graph oracle.old) }
     requires bound { IsBoundOf setting.now.query setting.now.optimum.length setting.now.reach }
-    requires sums { sums.old ≡ record { trees = trees_of setting.now; optimum = setting.now.optimum.arcs } }
-    requires ways { ways.old ≡ trees_of setting.now }
-    requires listed { IsListedPlateau (trees_of setting.now) (Some setting.now.reach) plateau.now }
-    ensures route { IfOk result
-        (IsRouteOf setting.now.graph setting.now.query setting.now.optimum.arcs (trees_of setting.now) plateau.now) }
-    ensures sums { sums.new ≡ sums.old }
-    ensures ways { ways.new ≡ ways.old }
+    requires sifted { IsSifted setting.now sifted.now }
+    ensures route { IfOk result (IsRouteOf setting.now.graph setting.now.query setting.now.optimum.arcs
+        (trees_of setting.now) sifted.now.plateau) }
     ensures same { O.graph oracle.new ≡ O.graph oracle.old }
     ensures counted { StaysCounted (O.asked oracle.old) (O.asked oracle.new) }
     ensures asks { AsksFor setting.now.graph setting.now.query.from setting.now.query.to setting.now.reach
-        setting.now.optimum.arcs plateau.now.least (O.asked oracle.old) (O.asked oracle.new) }
+        setting.now.optimum.arcs sifted.now.plateau.least (O.asked oracle.old) (O.asked oracle.new) }
 {
-    let query = setting.query;
-    let optimum = setting.optimum;
-    if plateau.last.number() == query.to.number() {
-        return Ok(None);
-    }
-    let shared = sums.through(plateau.least);
-    if !within_share(shared, &query.gamma, optimum.length) {
-        return Ok(None);
-    }
-    if ways.refuses_after(plateau.last, query, optimum.length)? {
-        return Ok(None);
-    }
-    if ways.refuses_before(plateau.first, query, optimum.length)? {
-        return Ok(None);
-    }
+    setting.is_posed();
+    let plateau = sifted.plateau;
+    let shared = sifted.shared;
     let Some(candidate) = candidate_of(alloc, setting, plateau.least)? else {
         unreachable!()
     };
@@ -79,7 +59,31 @@ fn route_of<O: Oracle>(
     }))
 }
 
-/// The alternatives among the paths of these plateaus. The tables of the memory are taken, and given back.
+/// The routes of these plateaus, in their order.
+pub(crate) fn put_all<O: Oracle>(
+    alloc: Global,
+    setting: &Setting<'_>,
+    oracle: &mut O,
+    sifted: &[Sifted],
+) -> Result<RouteList, NoMemory>
+    requires same { HaveSameDist setting.now.graph (O.graph oracle.old) }
+    requires bound { IsBoundOf setting.now.query setting.now.optimum.length setting.now.reach }
+    requires sifted { All (IsSifted setting.now) sifted.now }
+    ensures routes { IfOk result (ArePut setting.now sifted.now) }
+    ensures same { O.graph oracle.new ≡ O.graph oracle.old }
+    ensures counted { StaysCounted (O.asked oracle.old) (O.asked oracle.new) }
+    ensures asks { AsksForAll setting.now sifted.now (O.asked oracle.old) (O.asked oracle.new) }
+{
+    let mut routes = RouteList::new(alloc);
+    for one in sifted {
+        if let Some(route) = put(alloc, setting, oracle, one)? {
+            routes.push(route)?;
+        }
+    }
+    Ok(routes)
+}
+
+/// The alternatives among the paths of these plateaus.
 fn routes_of<O: Oracle>(
     alloc: Global,
     memory: &mut PlanMemory,
@@ -96,18 +100,9 @@ fn routes_of<O: Oracle>(
     ensures asks { AsksAtMost setting.now.graph setting.now.query.from setting.now.query.to setting.now.reach
         setting.now.optimum.arcs (O.asked oracle.old) (O.asked oracle.new) }
 {
-    let sum_tables = mem::replace(&mut memory.sums, SumTables::new(alloc));
-    let way_tables = mem::replace(&mut memory.ways, WayTables::new(alloc));
-    let mut sums = SharedSums::new(alloc, setting.pair, &setting.optimum.arcs, sum_tables)?;
-    let mut ways = Refusals::new(setting.pair, way_tables)?;
-    let mut routes = RouteList::new(alloc);
-    for plateau in plateaus {
-        if let Some(route) = route_of(alloc, setting, oracle, &mut sums, &mut ways, plateau)? {
-            routes.push(route)?;
-        }
-    }
-    memory.sums = sums.into_tables();
-    memory.ways = ways.into_tables();
+    setting.is_posed();
+    let sifted = sift_all(alloc, memory, setting, plateaus)?;
+    let routes = put_all(alloc, setting, oracle, sifted.as_slice())?;
     let routes = order_routes(routes)?;
     Ok(routes)
 }

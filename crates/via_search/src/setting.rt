@@ -4,11 +4,12 @@ ghost use Rattle.std.specs.Prelude.{◌≡◌, IfOk};
 ghost use Rattle.road_model.specs.Graph.{IsVertex};
 ghost use Rattle.via_search.specs.Candidates.{IsPosed, pair_of};
 
-use canonical_trees::{TreeMemory, TreePair, trees_in};
+use canonical_trees::{TreeMemory, TreePair, trees_forked_in, trees_in};
 use forward_star::Star;
-use road_model::{NoMemory, Optimum, Query};
+use road_model::{Gate, NoMemory, Optimum, Query};
 use std::alloc::Global;
 use std::marker::Model;
+use std::thread::Threads;
 
 /// The trees of a query as far as `reach`, which keep the steps of all vertices whose paths are no longer than that:
 /// whoever asks of many paths would else look the step of a vertex up once for each path through it.
@@ -25,6 +26,26 @@ pub(crate) fn trees_with_steps<'a>(
 {
     let mut pair = trees_in(alloc, memory, star, query.from, query.to, Some(reach))?;
     pair.keep_steps(reach)?;
+    Ok(pair)
+}
+
+/// The same by two threads: the searches are parts 0 and 1 of the gate.
+pub(crate) fn trees_with_steps_forked<'a, R: Threads + Sync, G: Gate>(
+    rt: &R,
+    alloc: Global,
+    gate: &G,
+    memory: &mut TreeMemory,
+    star: &'a Star,
+    query: &Query,
+    reach: u64,
+) -> Result<TreePair<'a>, NoMemory>
+    requires source { IsVertex star.now.vertices query.now.from }
+    requires target { IsVertex star.now.vertices query.now.to }
+    ensures { IfOk result (λ pair. pair ≡ pair_of star.now query.now reach) }
+{
+    let (from, to) = (query.from, query.to);
+    let mut pair = trees_forked_in(rt, alloc, gate, memory, star, from, to, Some(reach))?;
+    pair.keep_steps_forked(rt, reach)?;
     Ok(pair)
 }
 
@@ -80,5 +101,13 @@ impl<'a> Setting<'a> {
             optimum,
             reach,
         }
+    }
+
+    /// The query is posed with its optimum. Does nothing: a caller's proof learns it.
+    #[inline(always)]
+    pub(crate) fn is_posed(&self)
+        ensures { IsPosed self.now.graph self.now.query self.now.optimum }
+    {
+        let _ = &self.reach;
     }
 }

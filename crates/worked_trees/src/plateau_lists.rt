@@ -1,13 +1,16 @@
 //! Plateaus.
 
-use canonical_trees::trees;
+use canonical_trees::{TreeMemory, trees, trees_forked_in};
 use forward_star::Star;
-use plateau_finder::{Plateau, PlateauList, plateau_of, plateaus, plateaus_within};
-use road_model::Vertex;
+use plateau_finder::{
+    Plateau, PlateauList, plateau_of, plateaus, plateaus_forked, plateaus_within,
+};
+use road_model::{FreeGate, Vertex};
 use std::alloc::Global;
 use std::fmt::Write;
 use std::process::Abort;
 use std::test::Fail;
+use std::thread::Threads;
 use worked_graphs::{A, Arcs, D, star_of, vertex_of};
 
 // One path, through all four vertices.
@@ -33,7 +36,26 @@ fn within(alloc: Global, star: &Star, ends: (u32, u32), bound: u64) -> Result<St
     Ok(text_of(alloc, &list)?)
 }
 
-fn finds<R: Abort>(
+// The same by several threads.
+fn within_forked(
+    rt: &(impl Threads + Sync),
+    alloc: Global,
+    star: &Star,
+    ends: (u32, u32),
+    bound: u64,
+) -> Result<String, Fail> {
+    let vertices = star.vertices();
+    let from = vertex_of(vertices, ends.0)?;
+    let to = vertex_of(vertices, ends.1)?;
+    let mut memory = TreeMemory::new(alloc);
+    let radius = Some(bound);
+    let mut pair = trees_forked_in(rt, alloc, &FreeGate, &mut memory, star, from, to, radius)?;
+    pair.keep_steps_forked(rt, bound)?;
+    let list = plateaus_forked(rt, alloc, &pair, bound)?;
+    Ok(text_of(alloc, &list)?)
+}
+
+fn finds<R: Abort + Threads + Sync>(
     rt: &R,
     alloc: Global,
     star: &Star,
@@ -43,6 +65,12 @@ fn finds<R: Abort>(
 ) -> Result<(), Fail> {
     let text = within(alloc, star, ends, bound)?;
     assert_eq!(rt; text.as_str(), wanted, "{ends:?} within {bound}");
+    let text = within_forked(rt, alloc, star, ends, bound)?;
+    assert_eq!(rt;
+        text.as_str(),
+        wanted,
+        "{ends:?} within {bound}, by threads"
+    );
     Ok(())
 }
 

@@ -15,12 +15,12 @@ use via_search::{PlanMemory, plan, plan_in, verdict};
 use worked_graphs::{A, Arcs, B, C, D, PARALLEL, STUB, star_of, vertex_of};
 
 /// Gamma, alpha and epsilon.
-type Ratios = [(u64, u64); 3];
+pub type Ratios = [(u64, u64); 3];
 
-const DEFAULT: Ratios = [(4, 5), (1, 4), (1, 4)];
+pub const DEFAULT: Ratios = [(4, 5), (1, 4), (1, 4)];
 
 /// What several tests list.
-const OVER_A: &str =
+pub const OVER_A: &str =
     "optimum length 20 arcs 1 2; via 3 length 22 shared 0 plateau 6 rank 38 arcs 3 4 5";
 
 const ALONE: &str = "optimum length 20 arcs 1 2";
@@ -39,7 +39,7 @@ fn ratio_of(ratio: (u64, u64), cap: u64) -> Result<Ratio, Fail> {
 }
 
 // A query of the star, from one vertex to another.
-fn query_of(star: &Star, ends: (u32, u32), ratios: Ratios) -> Result<Query, Fail>
+pub fn query_of(star: &Star, ends: (u32, u32), ratios: Ratios) -> Result<Query, Fail>
     ensures { IfOk result
         (λ q. IsVertex star.now.vertices q.from × IsVertex star.now.vertices q.to) }
 {
@@ -83,7 +83,7 @@ fn write_arcs(text: &mut String, arcs: &ArcList) -> Result<(), Fail> {
     Ok(())
 }
 
-fn text_of(alloc: Global, plan: &Plan) -> Result<String, Fail> {
+pub fn text_of(alloc: Global, plan: &Plan) -> Result<String, Fail> {
     let mut text = String::new(alloc);
     let Plan::Found { optimum, others } = plan else {
         text.push_str("none")?;
