@@ -11,6 +11,7 @@ mod work;
 pub use past::Past;
 pub use prepared::Prepared;
 pub use shared_items::SharedItems;
+pub use version_oracle::VersionOracle;
 pub use work::Work;
 
 #[cfg(test)]

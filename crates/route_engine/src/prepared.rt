@@ -29,7 +29,7 @@ use tree_search::PlainOracle;
 use via_search::{plan_forked_with, plan_with, verdict_with};
 
 /// From so many arcs of its optimum on, a query is far.
-const FAR: usize = 96;
+const FAR: usize = 256;
 
 /// How many oracles test the paths of a far query, each in a thread.
 const PIECES: usize = 4;
@@ -162,8 +162,9 @@ impl Prepared {
         best
     }
 
-    // An oracle for the graph of this version.
-    fn oracle(&self, alloc: Global, work: &mut Work) -> Result<VersionOracle<'_>, NoMemory>
+    /// An oracle for the graph of this version: climbs in its hierarchy, or plain searches where there is none. Its memory
+    /// is taken from `work`, and `Work::keep` gives it back.
+    pub fn oracle(&self, alloc: Global, work: &mut Work) -> Result<VersionOracle<'_>, NoMemory>
         ensures { IfOk result (λ o. HaveSameDist (graph_of self.now) (asked_graph o)) }
     {
         match &self.hierarchy {
@@ -243,7 +244,7 @@ impl Prepared {
     ///
     /// It takes what `plan_with` takes. The optimum is found by distances over the hierarchy, in the time of the links above
     /// the vertices of its path and above the tails of arcs into it, and questions are answered by climbs; where there is no
-    /// hierarchy, plain searches do both. Where the optimum has 96 arcs or more and there is a hierarchy, four threads share
+    /// hierarchy, plain searches do both. Where the optimum has 256 arcs or more and there is a hierarchy, four threads share
     /// the work, as `plan_forked_with` does it.
     pub fn plan_counted<R: Threads + Sync>(
         &self,

@@ -7,7 +7,7 @@ use tree_search::PlainOracle;
 
 /// The oracle of a version: climbs in its hierarchy, or plain searches where there is none.
 #[derive(Drop)]
-pub(crate) enum VersionOracle<'a> {
+pub enum VersionOracle<'a> {
     Climbing(HierarchyOracle),
     Plain(PlainOracle<'a, Star>),
 }

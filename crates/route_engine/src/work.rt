@@ -78,7 +78,7 @@ impl Work {
     }
 
     /// Keeps the memory of an oracle, and counts what it settled.
-    pub(crate) fn keep(&mut self, oracle: VersionOracle<'_>) {
+    pub fn keep(&mut self, oracle: VersionOracle<'_>) {
         match oracle {
             VersionOracle::Climbing(oracle) => self.keep_climbs(oracle),
             VersionOracle::Plain(oracle) => {

@@ -9,6 +9,7 @@ ghost use Rattle.road_io.specs.Shelf.{with_name};
 ghost use Rattle.dimacs_reader.specs.declared.fault.GraphFault.{GraphFault};
 ghost use Rattle.road_model.specs.Graph.{IsVertex};
 ghost use Rattle.road_model.specs.Queries.{usual};
+ghost use Rattle.route_engine.specs.Lineage.{graph_of};
 ghost use Rattle.route_server.specs.Certifying.{Certifies, CertifiesFile, IsCertificateOf, IsCertified};
 ghost use Rattle.route_server.specs.Causes.{AreEnds, HasFault, IsEarly, IsInside, IsOutside, IsUnjudged, IsWhole};
 
@@ -18,12 +19,11 @@ use crate::status::Status;
 use crate::words::Ends;
 use certificate_text::{Certificate, put_certificate};
 use certify::certificate_of;
-use forward_star::Star;
 use road_io::{Gathered, Put, Shelf, Sink};
 use road_model::{GraphFile, NoMemory, Query, Vertex};
+use route_engine::{Prepared, Work};
 use std::alloc::{AllocError, Global};
-use tree_search::PlainOracle;
-use via_search::plan;
+use std::thread::Threads;
 
 /// The vertex of a number, where a graph of so many vertices has it.
 fn vertex_of(vertices: u32, number: u64) -> Option<Vertex>
@@ -37,33 +37,39 @@ fn vertex_of(vertices: u32, number: u64) -> Option<Vertex>
     }
 }
 
-/// Plans the query between two vertices with the usual ratios, and gathers the evidence that the plan is its answer. The
-/// oracle of both is the plain one.
-fn certificate_between(
+/// Plans the query between two vertices with the usual ratios, and gathers the evidence that the plan is its answer.
+fn certificate_between<R: Threads + Sync>(
+    rt: &R,
     alloc: Global,
-    star: &Star,
+    version: &Prepared,
     from: Vertex,
     to: Vertex,
 ) -> Result<Certificate, NoMemory>
-    requires source { IsVertex star.now.vertices from }
-    requires target { IsVertex star.now.vertices to }
-    ensures { IfOk result (IsCertificateOf star.now (usual from to)) }
+    requires source { IsVertex (graph_of version.now).vertices from }
+    requires target { IsVertex (graph_of version.now).vertices to }
+    ensures { IfOk result (IsCertificateOf (graph_of version.now) (usual from to)) }
 {
-    star.within_limits();
     let query = Query::usual(from, to);
-    let mut oracle = PlainOracle::new(alloc, star)?;
-    let answer = plan(alloc, star, &mut oracle, &query)?;
-    let certificate = certificate_of(alloc, star, &mut oracle, &query, &answer)?;
+    let mut work = Work::new(alloc);
+    let answer = version.plan_counted(rt, alloc, &query, &mut work)?;
+    let mut oracle = version.oracle(alloc, &mut work)?;
+    let certificate = certificate_of(alloc, version.star(), &mut oracle, &query, &answer)?;
     Ok(certificate)
 }
 
 /// The text of that certificate, put together whole.
-fn text_between(alloc: Global, star: &Star, from: Vertex, to: Vertex) -> Result<Gathered, NoMemory>
-    requires source { IsVertex star.now.vertices from }
-    requires target { IsVertex star.now.vertices to }
-    ensures { IfOk result (λ text. IsCertified star.now (record { from = from; to = to }) (gathered text)) }
+fn text_between<R: Threads + Sync>(
+    rt: &R,
+    alloc: Global,
+    version: &Prepared,
+    from: Vertex,
+    to: Vertex,
+) -> Result<Gathered, NoMemory>
+    requires source { IsVertex (graph_of version.now).vertices from }
+    requires target { IsVertex (graph_of version.now).vertices to }
+    ensures { IfOk result (λ text. IsCertified (graph_of version.now) (record { from = from; to = to }) (gathered text)) }
 {
-    let certificate = certificate_between(alloc, star, from, to)?;
+    let certificate = certificate_between(rt, alloc, version, from, to)?;
     let mut text = Gathered::new(alloc);
     match put_certificate(&mut text, &certificate) {
         Put::Done => Ok(text),
@@ -72,7 +78,13 @@ fn text_between(alloc: Global, star: &Star, from: Vertex, to: Vertex) -> Result<
 }
 
 /// Writes the certificate of the query between the ends, where the graph has both.
-fn certify<K: Sink>(alloc: Global, graph: GraphFile, ends: Ends, output: &mut K) -> Status
+fn certify<R: Threads + Sync, K: Sink>(
+    rt: &R,
+    alloc: Global,
+    graph: GraphFile,
+    ends: Ends,
+    output: &mut K,
+) -> Status
     ensures certifies { IfTold (K.written output.old) (K.written output.new) (λ out now.
         Certifies graph ends out now result) }
     ensures known { result ≡ Status.Usage → ⊥ }
@@ -95,11 +107,11 @@ fn certify<K: Sink>(alloc: Global, graph: GraphFile, ends: Ends, output: &mut K)
     let Some(to) = vertex_of(vertices, ends.to) else {
         return Status::QueryRefused;
     };
-    let star = match Star::build(alloc, graph) {
-        Ok(star) => star,
+    let version = match Prepared::from_file(rt, alloc, graph) {
+        Ok(version) => version,
         Err(_) => return Status::NoMemory,
     };
-    match text_between(alloc, &star, from, to) {
+    match text_between(rt, alloc, &version, from, to) {
         Ok(text) => ends_by(output.write(text.bytes())),
         Err(_) => Status::NoMemory,
     }
@@ -107,10 +119,11 @@ fn certify<K: Sink>(alloc: Global, graph: GraphFile, ends: Ends, output: &mut K)
 
 /// Reads a graph file, and writes the certificate of the query between the ends with the usual ratios.
 ///
-/// The graph's fault goes first, and then an end that is no vertex. It takes the memory of a `Star`, and that of a plan
-/// and of its certificate, whose text is put together whole and written at once; each question of the tests is answered by
-/// a plain search.
-pub fn certify_named<F: Shelf, K: Sink>(
+/// The graph's fault goes first, and then an end that is no vertex. It takes the time and the memory of a version, and those
+/// of a plan and of its certificate, whose text is put together whole and written at once; the questions of the tests are
+/// answered as those of a plan.
+pub fn certify_named<R: Threads + Sync, F: Shelf, K: Sink>(
+    rt: &R,
     alloc: Global,
     name: &str,
     ends: Ends,
@@ -146,7 +159,7 @@ pub fn certify_named<F: Shelf, K: Sink>(
     ensures write_quiet { result ≢ Status.WriteFault → K.faults output.new ≡ K.faults output.old }
 {
     match read_named(alloc, name, shelf) {
-        Ok(graph) => certify(alloc, graph, ends, output),
+        Ok(graph) => certify(rt, alloc, graph, ends, output),
         Err(error) => ends_as(error),
     }
 }

@@ -36,8 +36,8 @@ use std::thread::Threads;
 /// kept from one query to the next with what the largest searches so far needed. `answer` keeps as much for searches
 /// and plans, and the newest version of the graph (`route_engine::Prepared`), beside the next one while a change is
 /// published. Besides, it keeps 128 KB for lines, the plans of the last eight queries that a page was asked of, and the
-/// longest reply. `certify` takes 40 bytes an arc, the memory of a plan, and the certificate, whose blocks have 24 bytes a
-/// vertex that their searches reach.
+/// longest reply. `certify` takes what `answer` takes for one version and one plan, and the certificate, whose blocks have 24
+/// bytes a vertex that their searches reach.
 pub fn run<R: Threads + Sync, F: Shelf, S: Source, K: Sink>(
     rt: &R,
     alloc: Global,
@@ -144,6 +144,6 @@ pub fn run<R: Threads + Sync, F: Shelf, S: Source, K: Sink>(
         Command::Survey(grid, queries) => survey(rt, alloc, grid, queries, output),
         Command::Answer => answer(rt, alloc, name, shelf, input, output),
         Command::Recheck => recheck_named(alloc, name, other_name(words), shelf, output),
-        Command::Certify(ends) => certify_named(alloc, name, ends, shelf, output),
+        Command::Certify(ends) => certify_named(rt, alloc, name, ends, shelf, output),
     }
 }
